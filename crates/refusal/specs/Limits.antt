@@ -1,0 +1,36 @@
+-- The ranges of document 01, each named once. Assumes nothing.
+use Prim.Native.Nat.{ℕ}
+use mathlib.Core.Bool.{Bool, not, _&&_}
+use lib.Dec.{leb}
+
+-- "A tag is a number from 0 to 4,294,967,295": below 2^32, which is also what products are taken modulo
+abbrev pub tagEnd : ℕ
+tagEnd = 4294967296
+
+-- "A list has N tags, 0 to 4,096"
+abbrev pub tagsMax : ℕ
+tagsMax = 4096
+
+-- "B is the group count, 1 to 512"
+abbrev pub groupsMax : ℕ
+groupsMax = 512
+
+-- "L is the seed limit, 1 to 65,536"
+abbrev pub limitMax : ℕ
+limitMax = 65536
+
+-- "the seeds tried are 0 to L-1": a seed is at most 65,535
+abbrev pub seedMax : ℕ
+seedMax = 65535
+
+-- "A group holds 0 to 24 tags"
+abbrev pub groupMax : ℕ
+groupMax = 24
+
+-- "Input above 65,527 bytes is refused with 5 at place 0, unexamined": the printer's input and the C boundary's
+abbrev pub textMax : ℕ
+textMax = 65527
+
+-- x "is not" low to high
+unfoldable pub outside : ℕ → ℕ → ℕ → Bool
+outside low high x = not (leb low x && leb x high)
