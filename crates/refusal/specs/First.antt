@@ -12,3 +12,8 @@ metAt place false = none
 unfoldable pub first : (ℕ → Bool) → ℕ → Option ℕ
 first test zero = none
 first test (suc limit) = orElse (first test limit) (metAt limit (test limit))
+
+-- Is there one?
+unfoldable pub isSome : {A : Type 0} → Option A → Bool
+isSome none = false
+isSome (some a) = true

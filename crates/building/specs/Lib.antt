@@ -1,0 +1,4 @@
+pub mod Members
+pub mod Number
+pub mod Building
+pub mod FromText

@@ -1,0 +1,38 @@
+-- The least sequence that fills. LeastLaws says what it is without searching: it fills, nothing that fills comes before it, and
+-- where there is none nothing fills. Assumes nothing.
+use Prim.Native.Nat.{ℕ}
+use mathlib.Core.Bool.{Bool, true, false, cond}
+use mathlib.Core.List.{List, [], _∷_}
+use mathlib.Core.Option.{Option, none, some, orElse, Option·map}
+use Rattle.refusal.specs.First.{isSome}
+use Rattle.filling.specs.Places.{occurs}
+use Rattle.filling.specs.Filling.{Key, placeBy}
+
+-- "compared from the lowest tag on, 0 before 1": the order of choice sequences of one length.
+unfoldable pub NotAfter : List Bool → List Bool → Type 0
+NotAfter [] ds = Unit {0}
+NotAfter (c ∷ cs) [] = ⊥
+NotAfter (false ∷ cs) (false ∷ ds) = NotAfter cs ds
+NotAfter (false ∷ cs) (true ∷ ds) = Unit {0}
+NotAfter (true ∷ cs) (false ∷ ds) = ⊥
+NotAfter (true ∷ cs) (true ∷ ds) = NotAfter cs ds
+
+-- The sequences that begin with a choice: none where its place is used already.
+unfoldable pub beginning : Bool → Key → List ℕ → Option (List Bool) → Option (List Bool)
+beginning choice key used rest =
+    cond (occurs (placeBy choice key) used) none (Option·map (λ choices. choice ∷ choices) rest)
+
+-- "Among filling sequences the least is taken": each key in turn, choice 0 before choice 1, over the places used so far.
+unfoldable pub leastFrom : List ℕ → List Key → Option (List Bool)
+leastFrom used [] = some []
+leastFrom used (key ∷ keys) =
+    orElse
+    (beginning false key used (leastFrom (placeBy false key ∷ used) keys))
+    (beginning true key used (leastFrom (placeBy true key ∷ used) keys))
+
+unfoldable pub least : List Key → Option (List Bool)
+least keys = leastFrom [] keys
+
+-- Is there a sequence that fills?
+unfoldable pub feasible : List Key → Bool
+feasible keys = isSome (least keys)

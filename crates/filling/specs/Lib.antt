@@ -1,0 +1,4 @@
+pub mod Places
+pub mod Filling
+pub mod Least
+pub mod Word

@@ -1,0 +1,23 @@
+-- The checks that a list of tags has to pass, shared by the operations that take one. Assumes nothing.
+use Prim.Native.Nat.{ℕ, zero, suc}
+use mathlib.Core.Bool.{Bool, false}
+use mathlib.Core.List.{List}
+use mathlib.Core.Option.{Option}
+use lib.Dec.{leb}
+use lib.ListN.{length, getD}
+use Rattle.refusal.specs.Limits.{limitMax, outside}
+use Rattle.refusal.specs.First.{first}
+use Rattle.refusal.specs.Checks.{Check, met}
+
+-- "4: L not 1 to 65,536."
+unfoldable pub limitCheck : ℕ → Check
+limitCheck limit = (4, met (outside 1 limitMax limit))
+
+-- The tag with this index is not above the one before; the first tag has none before it.
+unfoldable pub notAbove : List ℕ → ℕ → Bool
+notAbove tags zero = false
+notAbove tags (suc i) = leb (getD tags (suc i) 0) (getD tags i 0)
+
+-- "6: not strictly ascending, at the first index whose tag is not above the one before."
+unfoldable pub ascendingCheck : List ℕ → Check
+ascendingCheck tags = (6, first (notAbove tags) (length tags))

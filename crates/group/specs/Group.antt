@@ -1,0 +1,30 @@
+-- A group of tags under a seed: its candidate places, its seed, and the sequence taken. Assumes nothing.
+use Prim.Native.Nat.{ℕ}
+use mathlib.Core.Bool.{Bool}
+use mathlib.Core.List.{List, [], map}
+use mathlib.Core.Option.{Option, Option·getD}
+use lib.ListN.{length}
+use Rattle.refusal.specs.First.{first}
+use Rattle.hash.specs.Formula.{placeOf}
+use Rattle.filling.specs.Filling.{Key}
+use Rattle.filling.specs.Least.{least, feasible}
+
+-- The two candidate places of tag t among n under seed s: a key of the theory of filling.
+unfoldable pub bothPlaces : ℕ → ℕ → ℕ → Key
+bothPlaces n s t = (placeOf n s 0 t, placeOf n s 1 t)
+
+-- The candidate places of the tags under seed s, among n places: as many as the tags, when a group is placed.
+unfoldable pub candidates : ℕ → ℕ → List ℕ → List Key
+candidates n s tags = map (bothPlaces n s) tags
+
+abbrev pub groupUnder : List ℕ → ℕ → List Key
+groupUnder tags s = candidates (length tags) s tags
+
+-- "The search stops at the first seed that some choice sequence fills": the least seed below the limit, if there is one.
+-- An empty group has seed 0.
+unfoldable pub leastSeed : List ℕ → ℕ → Option ℕ
+leastSeed tags limit = first (λ s. feasible (groupUnder tags s)) limit
+
+-- The choice sequence taken under a seed: "Among filling sequences the least is taken". Empty where none fills.
+unfoldable pub taken : List ℕ → ℕ → List Bool
+taken tags s = Option·getD (least (groupUnder tags s)) []

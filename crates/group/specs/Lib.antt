@@ -1,0 +1,3 @@
+pub mod Group
+pub mod Ascending
+pub mod Placing

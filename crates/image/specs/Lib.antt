@@ -1,0 +1,4 @@
+pub mod Sheet
+pub mod View
+pub mod Checking
+pub mod Lookup

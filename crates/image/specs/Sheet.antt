@@ -1,0 +1,31 @@
+-- The image: its lines and bytes. Assumes nothing.
+use Prim.Native.Nat.{ℕ, zero, suc, _+_, _*_}
+use mathlib.Core.List.{List, [], _∷_, _++_, flatten}
+use Rattle.text.specs.Line.{lineLength, pairLine, tagLine}
+
+-- f 0, f 1, … up to but not including f count
+unfoldable pub upTo : {A : Type 0} → ℕ → (ℕ → A) → List A
+upTo zero f = []
+upTo (suc count) f = f 0 ∷ upTo count (λ k. f (suc k))
+
+-- The numbers that an image states: N, B, the start and the seed of each group, the tag of each slot.
+pub record Sheet : Type 0 where
+  pub count : ℕ
+  pub groups : ℕ
+  pub start : ℕ → ℕ
+  pub seed : ℕ → ℕ
+  pub slot : ℕ → ℕ
+
+-- "Line 0: N in five columns, B in five. Line 1 + g: the start of group g in five columns, its seed in five. Line 1 + B + j: in
+-- ten columns, the tag whose number is j."
+unfoldable pub linesOf : Sheet → List (List ℕ)
+linesOf s =
+    pairLine (s .count) (s .groups)
+    ∷ (upTo (s .groups) (λ g. pairLine (s .start g) (s .seed g)) ++ upTo (s .count) (λ j. tagLine (s .slot j)))
+
+unfoldable pub bytesOf : Sheet → List ℕ
+bytesOf s = flatten (linesOf s)
+
+-- "The length is 11 × (1 + B + N), at most 50,699 bytes."
+unfoldable pub imageLength : ℕ → ℕ → ℕ
+imageLength groups count = lineLength * (1 + groups + count)
