@@ -1,3 +1,4 @@
 pub mod Group
+pub mod GroupLaws
 pub mod Ascending
 pub mod Placing

@@ -1,6 +1,8 @@
 pub mod Limits
+pub mod LimitsLaws
 pub mod Outcome
 pub mod First
+pub mod FirstLaws
 pub mod Checks
+pub mod ChecksLaws
 pub mod Reason
-pub mod LimitsLaws

@@ -1,0 +1,107 @@
+-- When the checks pass, and which refusal comes where they do not. Assumes nothing.
+use Prim.Native.Nat.{ℕ}
+use mathlib.Core.Path.{_≡_, refl}
+use mathlib.Core.Logic.{_⊎_, inl, inr}
+use mathlib.Core.Bool.{Bool, true, false}
+use mathlib.Core.List.{List, [], _∷_, _++_}
+use mathlib.Core.Option.{none, some}
+use native.Mathlib.Omega.{arith}
+use Rattle.refusal.specs.Outcome.{Outcome, answered, refused}
+use Rattle.refusal.specs.First.{metAt}
+use Rattle.refusal.specs.Checks.{Check, met, inOrder}
+
+-- A condition that holds is met at its place.
+pub metAt-true : (place : ℕ) {condition : Bool} → condition ≡ true → metAt place condition ≡ some place
+unfolding metAt
+metAt-true place e = rw e
+
+-- A condition that fails is not met.
+pub metAt-false : (place : ℕ) {condition : Bool} → condition ≡ false → metAt place condition ≡ none
+unfolding metAt
+metAt-false place e = rw e
+
+-- A condition that is met holds, and is met at its own place.
+pub true-of-metAt : (place : ℕ) (condition : Bool) {p : ℕ} → metAt place condition ≡ some p
+    → (condition ≡ true) × (p ≡ place)
+unfolding metAt
+true-of-metAt place true e = (refl, cc)
+true-of-metAt place false e = (cc, cc)
+
+-- A condition that is not met fails.
+pub false-of-metAt : (place : ℕ) (condition : Bool) → metAt place condition ≡ none → condition ≡ false
+unfolding metAt
+false-of-metAt place true e = cc
+false-of-metAt place false e = refl
+
+-- A condition that names no place and holds is met at place 0.
+pub met-true : {condition : Bool} → condition ≡ true → met condition ≡ some 0
+unfolding met
+met-true e = metAt-true 0 e
+
+-- A condition that names no place and fails is not met.
+pub met-false : {condition : Bool} → condition ≡ false → met condition ≡ none
+unfolding met
+met-false e = metAt-false 0 e
+
+-- A condition that names no place and is met holds, and is met at place 0.
+pub true-of-met : (condition : Bool) {p : ℕ} → met condition ≡ some p → (condition ≡ true) × (p ≡ 0)
+unfolding met
+true-of-met condition e = true-of-metAt 0 condition e
+
+-- A condition that names no place and is not met fails.
+pub false-of-met : (condition : Bool) → met condition ≡ none → condition ≡ false
+unfolding met
+false-of-met condition e = false-of-metAt 0 condition e
+
+-- No condition is met.
+abbrev pub Pass : List Check → Type 0
+Pass [] = Unit {0}
+Pass (check ∷ checks) = (check .1 ≡ none) × Pass checks
+
+-- The first condition met is one with this number, at this place.
+abbrev pub Met : List Check → ℕ → ℕ → Type 0
+Met [] number place = ⊥
+Met (check ∷ checks) number place =
+    ((check .0 ≡ number) × (check .1 ≡ some place)) ⊎ ((check .1 ≡ none) × Met checks number place)
+
+module _ {A : Type 0} where
+  -- Checks that pass leave what stands behind them.
+  pub inOrder-pass : (checks : List Check) (o : Outcome A) → Pass checks → inOrder checks o ≡ o
+  unfolding inOrder
+  inOrder-pass [] o h = refl
+  inOrder-pass ((number, none) ∷ checks) o h = inOrder-pass checks o (h .1)
+  inOrder-pass ((number, some place) ∷ checks) o h = cc
+
+  -- An answer comes only where the checks pass, and from behind them.
+  pub inOrder-answered : (checks : List Check) (o : Outcome A) {a : A} → inOrder checks o ≡ answered a
+      → Pass checks × (o ≡ answered a)
+  unfolding inOrder
+  inOrder-answered [] o e = (tt, e)
+  inOrder-answered ((number, none) ∷ checks) o e = let (h, e′) = inOrder-answered checks o e in ((refl, h), e′)
+  inOrder-answered ((number, some place) ∷ checks) o e = absurd (let z : _≡_ {A = ℕ} 0 1 = cc in omega arith)
+
+  -- A refusal that comes before an answer is the first condition met.
+  pub inOrder-refused : (checks : List Check) (a : A) {number place : ℕ}
+      → inOrder checks (answered a) ≡ refused number place → Met checks number place
+  unfolding inOrder
+  inOrder-refused [] a e = let z : _≡_ {A = ℕ} 0 1 = cc in omega arith
+  inOrder-refused ((number, none) ∷ checks) a e = inr (refl, inOrder-refused checks a e)
+  inOrder-refused ((number, some place) ∷ checks) a e = inl (cc, cc)
+
+  -- The first condition met is the refusal, whatever stands behind the checks.
+  pub refused-inOrder : (checks : List Check) (o : Outcome A) {number place : ℕ}
+      → Met checks number place → inOrder checks o ≡ refused number place
+  unfolding inOrder
+  refused-inOrder [] o h = absurd h
+  refused-inOrder ((number, none) ∷ checks) o (inl h) = cc
+  refused-inOrder ((number, none) ∷ checks) o (inr h) = refused-inOrder checks o (h .1)
+  refused-inOrder ((number, some place) ∷ checks) o (inl h) = cc
+  refused-inOrder ((number, some place) ∷ checks) o (inr h) = cc
+
+  -- Checks after checks run in that order.
+  pub inOrder-append : (checks more : List Check) (o : Outcome A)
+      → inOrder (checks ++ more) o ≡ inOrder checks (inOrder more o)
+  unfolding inOrder
+  inOrder-append [] more o = refl
+  inOrder-append ((number, none) ∷ checks) more o = inOrder-append checks more o
+  inOrder-append ((number, some place) ∷ checks) more o = refl
