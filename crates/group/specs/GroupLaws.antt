@@ -1,14 +1,17 @@
 -- What the seed and the sequence taken are, in the words of `Fills`: callers use these laws, never the search. Assumes nothing.
-use Prim.Native.Nat.{ℕ, _≤_, _<_}
+use Prim.Native.Nat.{ℕ, zero, suc, _≤_, _<_}
 use mathlib.Core.Path.{_≡_, refl, _∙_}
-use mathlib.Core.Bool.{Bool, false}
-use mathlib.Core.List.{List, []}
+use mathlib.Core.Bool.{Bool, true, false}
+use mathlib.Core.List.{List, [], _∷_}
 use mathlib.Core.Option.{none, some}
 use native.Mathlib.Omega.{arith}
-use lib.ListN.{length, length-map}
+use lib.ListN.{length, getD, length-map}
 use Rattle.refusal.specs.FirstLaws.{some-of-isSome, first-some, first-none, first-found, first-out, first-more}
 use Rattle.filling.specs.Places.{distinct}
-use Rattle.filling.specs.Filling.{chosen, Fills}
+use Rattle.hash.specs.Formula.{placeOf}
+use Rattle.filling.specs.Filling.{placeBy, chosen, Fills}
+use Rattle.filling.specs.FillingLaws.{EachCandidate}
+use Rattle.filling.specs.Word.{choiceNumber}
 use Rattle.filling.specs.Least.{NotAfter, least, feasible}
 use Rattle.filling.specs.LeastLaws.{least-fills, least-least, least-only, feasible-fills, infeasible-none, fills-feasible, none-infeasible}
 use Rattle.group.specs.Group.{bothPlaces, candidates, groupUnder, leastSeed, taken}
@@ -17,6 +20,22 @@ use Rattle.group.specs.Group.{bothPlaces, candidates, groupUnder, leastS
 pub candidates-length : (n s : ℕ) (tags : List ℕ) → length (candidates n s tags) ≡ length tags
 unfolding candidates
 candidates-length n s tags = length-map tags (bothPlaces n s)
+
+-- The place that a choice takes of the tag with index i is the tag's place by the formula.
+pub candidate-place : (n s : ℕ) (tags : List ℕ) (i : ℕ) (choice : Bool) → i < length tags
+    → placeBy choice (getD (candidates n s tags) i (0, 0)) ≡ placeOf n s (choiceNumber choice) (getD tags i 0)
+unfolding candidates bothPlaces placeBy choiceNumber
+candidate-place n s [] i choice lt = absurd (omega arith)
+candidate-place n s (t ∷ ts) zero false lt = refl
+candidate-place n s (t ∷ ts) zero true lt = refl
+candidate-place n s (t ∷ ts) (suc i) choice lt = candidate-place n s ts i choice (omega arith)
+
+-- What holds of every place of every tag by the formula holds of each candidate place.
+pub each-candidate : (P : ℕ → Type 0) (n s : ℕ) (tags : List ℕ)
+    → ((i c : ℕ) → i < length tags → P (placeOf n s c (getD tags i 0))) → EachCandidate P (candidates n s tags)
+each-candidate P n s tags each i lt choice =
+    let below : i < length tags = omega (arith, candidates-length n s tags) in
+    rw (candidate-place n s tags i choice below) (each i (choiceNumber choice) below)
 
 -- A sequence that fills has a choice for each tag.
 pub fills-length : (n s : ℕ) (tags : List ℕ) {cs : List Bool} → Fills (candidates n s tags) cs → length cs ≡ length tags
