@@ -1,4 +1,5 @@
 pub mod Sheet
+pub mod SheetLaws
 pub mod View
 pub mod Checking
 pub mod Lookup

@@ -16,12 +16,21 @@ pub record Sheet : Type 0 where
   pub seed : ℕ → ℕ
   pub slot : ℕ → ℕ
 
--- "Line 0: N in five columns, B in five. Line 1 + g: the start of group g in five columns, its seed in five. Line 1 + B + j: in
--- ten columns, the tag whose number is j."
+-- "Line 0: N in five columns, B in five."
+abbrev pub headerLineOf : Sheet → List ℕ
+headerLineOf s = pairLine (s .count) (s .groups)
+
+-- "Line 1 + g: the start of group g in five columns, its seed in five."
+abbrev pub groupLineOf : Sheet → ℕ → List ℕ
+groupLineOf s g = pairLine (s .start g) (s .seed g)
+
+-- "Line 1 + B + j: in ten columns, the tag whose number is j."
+abbrev pub slotLineOf : Sheet → ℕ → List ℕ
+slotLineOf s j = tagLine (s .slot j)
+
+-- The lines one after the other, and the bytes of them all.
 unfoldable pub linesOf : Sheet → List (List ℕ)
-linesOf s =
-    pairLine (s .count) (s .groups)
-    ∷ (upTo (s .groups) (λ g. pairLine (s .start g) (s .seed g)) ++ upTo (s .count) (λ j. tagLine (s .slot j)))
+linesOf s = headerLineOf s ∷ (upTo (s .groups) (groupLineOf s) ++ upTo (s .count) (slotLineOf s))
 
 unfoldable pub bytesOf : Sheet → List ℕ
 bytesOf s = flatten (linesOf s)

@@ -1,0 +1,89 @@
+-- An image's length, and that line k of it is the line that was put there. Assumes nothing.
+use mathlib.Core.Path.{_≡_, refl, _∙_, ap}
+use mathlib.Core.List.{List, [], _∷_, _++_}
+use mathlib.Core.Option.{some}
+use Prim.Native.Nat.{ℕ, zero, suc, _+_, _*_, _^_, _≤_, _<_}
+use native.Mathlib.Omega.{arith}
+use lib.ListN.{length, getD, length-append, List·getD-append}
+use lib.Seq.{getD-append-add}
+use Rattle.refusal.specs.Limits.{tagEnd, tagsMax, groupsMax, seedMax}
+use Rattle.text.specs.Line.{lineLength, lineAt, imageHeader, groupLine, slotLine}
+use Rattle.text.specs.LineLaws.{pairLine-length, tagLine-length, Lines, lines-append, flatten-length, line-flatten, image-header-line, group-line, slot-line}
+use Rattle.image.specs.Sheet.{upTo, Sheet, headerLineOf, groupLineOf, slotLineOf, linesOf, bytesOf, imageLength}
+
+-- `upTo` has as many as are asked for, and f k at index k.
+pub upTo-length : {A : Type 0} (count : ℕ) (f : ℕ → A) → length (upTo count f) ≡ count
+unfolding upTo
+upTo-length zero f = refl
+upTo-length (suc count) f = ap suc (upTo-length count (λ k. f (suc k)))
+
+pub upTo-at : {A : Type 0} (count : ℕ) (f : ℕ → A) (d : A) (k : ℕ) → k < count → getD (upTo count f) k d ≡ f k
+unfolding upTo
+upTo-at zero f d k lt = absurd (omega arith)
+upTo-at (suc count) f d zero lt = refl
+upTo-at (suc count) f d (suc k) lt = upTo-at count (λ k. f (suc k)) d k (omega arith)
+
+-- Each line of an image is a line.
+upTo-lines : (count : ℕ) (f : ℕ → List ℕ) → ((k : ℕ) → length (f k) ≡ lineLength) → Lines (upTo count f)
+unfolding upTo Lines
+upTo-lines zero f h = tt
+upTo-lines (suc count) f h = (h 0, upTo-lines count (λ k. f (suc k)) (λ k. h (suc k)))
+
+-- "The length is 11 × (1 + B + N), at most 50,699 bytes."
+pub image-longest : (groups count : ℕ) → groups ≤ groupsMax → count ≤ tagsMax → imageLength groups count ≤ 50699
+unfolding imageLength
+image-longest groups count g n = omega arith
+
+module _ (s : Sheet) where
+  sheet-lines : Lines (linesOf s)
+  unfolding linesOf Lines
+  sheet-lines = (
+    pairLine-length (s .count) (s .groups),
+    lines-append (upTo (s .groups) (groupLineOf s)) (upTo (s .count) (slotLineOf s))
+        (upTo-lines (s .groups) (groupLineOf s) (λ g. pairLine-length (s .start g) (s .seed g)))
+        (upTo-lines (s .count) (slotLineOf s) (λ j. tagLine-length (s .slot j))),
+  )
+
+  sheet-count : length (linesOf s) ≡ 1 + s .groups + s .count
+  unfolding linesOf
+  sheet-count = simp (length-append, upTo-length) (omega arith)
+
+  -- The image has the stated length.
+  pub bytes-length : length (bytesOf s) ≡ imageLength (s .groups) (s .count)
+  unfolding bytesOf imageLength
+  bytes-length = flatten-length (linesOf s) sheet-lines ∙ ap (λ (k : ℕ). lineLength * k) sheet-count
+
+  -- Line k of an image is the line that was put there: line 0, line 1 + g, line 1 + B + j.
+  pub header-at : lineAt 0 (bytesOf s) ≡ headerLineOf s
+  unfolding bytesOf linesOf
+  header-at = line-flatten (linesOf s) 0 sheet-lines (omega (arith, sheet-count))
+
+  pub group-at : (g : ℕ) → g < s .groups → lineAt (suc g) (bytesOf s) ≡ groupLineOf s g
+  unfolding bytesOf linesOf
+  group-at g lt =
+      let many = upTo-length (s .groups) (groupLineOf s) in
+      line-flatten (linesOf s) (suc g) sheet-lines (omega (arith, sheet-count))
+      ∙ List·getD-append (upTo (s .groups) (groupLineOf s)) (upTo (s .count) (slotLineOf s)) [] g (omega arith)
+      ∙ upTo-at (s .groups) (groupLineOf s) [] g lt
+
+  pub slot-at : (j : ℕ) → j < s .count → lineAt (1 + s .groups + j) (bytesOf s) ≡ slotLineOf s j
+  unfolding bytesOf linesOf
+  slot-at j lt =
+      let groupLines = upTo (s .groups) (groupLineOf s) in
+      let e : 1 + s .groups + j ≡ suc (length groupLines + j) = omega (arith, upTo-length (s .groups) (groupLineOf s)) in
+      rw e
+      (line-flatten (linesOf s) (suc (length groupLines + j)) sheet-lines (omega (arith, sheet-count))
+      ∙ getD-append-add groupLines (upTo (s .count) (slotLineOf s)) j []
+      ∙ upTo-at (s .count) (slotLineOf s) [] j lt)
+
+  -- What stands in its range reads back.
+  pub header-reads : s .count ≤ tagsMax → 1 ≤ s .groups → s .groups ≤ groupsMax
+      → imageHeader (lineAt 0 (bytesOf s)) ≡ some (s .count, s .groups)
+  header-reads n one b = rw header-at (image-header-line (s .count) (s .groups) n one b)
+
+  pub group-reads : (g : ℕ) → g < s .groups → s .start g < 10 ^ 5 → s .seed g ≤ seedMax
+      → groupLine (lineAt (suc g) (bytesOf s)) ≡ some (s .start g, s .seed g)
+  group-reads g lt start seed = rw (group-at g lt) (group-line (s .start g) (s .seed g) start seed)
+
+  pub slot-reads : (j : ℕ) → j < s .count → s .slot j < tagEnd → slotLine (lineAt (1 + s .groups + j) (bytesOf s)) ≡ some (s .slot j)
+  slot-reads j lt tag = rw (slot-at j lt) (slot-line (s .slot j) tag)
