@@ -3,3 +3,6 @@ pub mod SheetLaws
 pub mod View
 pub mod Checking
 pub mod Lookup
+pub mod FaultLaws
+pub mod CheckedLookup
+pub mod LookupLaws

@@ -1,3 +1,4 @@
+pub mod BoolLaws
 pub mod Limits
 pub mod LimitsLaws
 pub mod Outcome
