@@ -1,4 +1,5 @@
 pub mod Members
+pub mod MembersLaws
 pub mod Number
 pub mod Building
 pub mod BuildingLaws

@@ -1,4 +1,5 @@
 pub mod Group
 pub mod GroupLaws
 pub mod Ascending
+pub mod AscendingLaws
 pub mod Placing

@@ -3,8 +3,10 @@ ghost use mathlib.Core.Path.{_≡_};
 ghost use Rattle.refusal.specs.Limits.{outside};
 ghost use Rattle.refusal.specs.Reason.{reasonNumber};
 
-// The ranges of document 01: the most tags of a list, groups, and tags of a group; the greatest seed limit and seed; and the most
-// bytes of a list text that the printer and the C boundary examine.
+// The ranges of document 01: the greatest tag; the most tags of a list, groups, and tags of a group; the greatest seed limit and
+// seed; and the most bytes of a list text that the printer and the C boundary examine.
+pub const TAG_MAX: u64 = 4294967295;
+
 pub const TAGS_MAX: usize = 4096;
 
 pub const GROUPS_MAX: u32 = 512;

@@ -1,12 +1,13 @@
 -- Laws of figures: their length, and how a figure grows by a digit at its right. Assumes nothing.
 use mathlib.Core.Path.{_≡_, refl}
-use mathlib.Core.List.{List, [], _∷_, _++_}
+use mathlib.Core.List.{[], _∷_, _++_}
 use Prim.Native.Nat.{ℕ, zero, suc, _+_, _*_, _/_, _%_, _<_}
 use native.Mathlib.Omega.{arith}
 use lib.ListN.{length, length-append}
 use borrow.Author.Tests.{ne-eqb}
 use Rattle.text.specs.Figure.{leading, figure}
 
+-- As many columns as asked for, whatever the number.
 pub leading-length : (w n : ℕ) → length (leading w n) ≡ w
 unfolding leading
 leading-length zero n = refl

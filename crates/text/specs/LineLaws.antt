@@ -1,6 +1,6 @@
 -- A line reads as its numbers exactly where it is their line; and line k of joined lines is the k-th of them. Assumes nothing.
 use mathlib.Core.Path.{_≡_, refl, sym, _∙_, ap}
-use mathlib.Core.Bool.{Bool, true, false, false≢true, cond, _&&_}
+use mathlib.Core.Bool.{Bool, true, false, false≢true, _&&_}
 use mathlib.Core.List.{List, [], _∷_, _++_, append-assoc, flatten}
 use mathlib.Core.Option.{Option, none, some, Option·none-ne-some, Option·some-injective}
 use Prim.Native.Nat.{ℕ, zero, suc, _+_, _*_, _^_, _≤_, _<_}
@@ -176,11 +176,12 @@ pub list-only : (t : ℕ) (line : List ℕ) → listLine line ≡ some t → (li
 unfolding listLine
 list-only t line = tag-within-only t line
 
--- Every line of these has 11 bytes.
+-- Lines to be joined: every one has 11 bytes.
 unfoldable pub Lines : List (List ℕ) → Type 0
 Lines [] = Unit
 Lines (l ∷ ls) = (length l ≡ lineLength) × Lines ls
 
+-- The join of lines: its length, its parts, and its line k.
 pub lines-append : (ks ls : List (List ℕ)) → Lines ks → Lines ls → Lines (ks ++ ls)
 unfolding Lines
 lines-append [] ls h j = j
