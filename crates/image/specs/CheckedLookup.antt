@@ -2,7 +2,7 @@
 -- Assumes nothing.
 use mathlib.Core.Path.{_≡_, refl, sym, _∙_, ap}
 use mathlib.Core.Logic.{_⊎_, inl, inr, _↔_}
-use mathlib.Core.Bool.{Bool, true, false, cond, not, _&&_, _||_, true≢false, and-false}
+use mathlib.Core.Bool.{Bool, true, false, cond, not, _&&_, _||_, true≢false, or-true}
 use mathlib.Core.List.{List, [], _∷_, _++_}
 use mathlib.Core.Option.{Option, none, some, Option·getD}
 use Prim.Native.Nat.{ℕ, zero, suc, _+_, _-_, _≤_, _<_}
@@ -12,7 +12,7 @@ use borrow.Author.Tests.{ltb-true, ltb-false, lt-ltb, le-ltb, leb-true, le-leb, 
 use Rattle.refusal.specs.BoolLaws.{both-of-and, neither-of-or, either-of-or}
 use Rattle.refusal.specs.Outcome.{Outcome, answered, refused}
 use Rattle.refusal.specs.First.{first, metAt, isSome}
-use Rattle.refusal.specs.FirstLaws.{first-none, some-of-isSome, none-of-isSome}
+use Rattle.refusal.specs.FirstLaws.{first-none, first-out, some-of-isSome, none-of-isSome}
 use Rattle.refusal.specs.Checks.{Check, met, inOrder}
 use Rattle.refusal.specs.ChecksLaws.{metAt-false, false-of-met, false-of-metAt, Pass, inOrder-pass, inOrder-answered, inOrder-append}
 use Rattle.hash.specs.Formula.{groupOf, placeOf}
@@ -55,10 +55,41 @@ sound-of-pass v (short, (header, (whole, (lines, (groups, (slots, (twins, end)))
       once = first-none (repeated v) (countIn v) twins;
     }
 
+-- And such an image is accepted.
+pub pass-of-sound : (v : View) → Sound v → Pass (checkingChecks v)
+unfolding checkingChecks openingChecks malformedIn slotLineIn
+pass-of-sound v s = (
+  s .opens .0,
+  (
+    s .opens .1 .0,
+    (
+      s .opens .1 .1 .0,
+      (
+        first-out (malformedIn v) (1 + groupsIn v + countIn v) well,
+        (
+          first-out (λ g. faulty g (startIn v g) (endIn v g)) (groupsIn v) (s .not-faulty),
+          (first-out (misplaced v) (countIn v) (s .placed), (first-out (repeated v) (countIn v) (s .once), tt)),
+        ),
+      ),
+    ),
+  ),
+)
+  where
+    well : (k : ℕ) → k < 1 + groupsIn v + countIn v → malformedIn v k ≡ false
+    well zero lt = false-of-met (not (isSome (v .header))) (s .opens .1 .0)
+    well (suc k) lt = go (ltb k (groupsIn v)) refl
+      where
+        go : (b : Bool) → ltb k (groupsIn v) ≡ b → malformedIn v (suc k) ≡ false
+        go true e = rw (e, s .group-lines k (ltb-true k (groupsIn v) e))
+        go false e =
+            let past : groupsIn v ≤ k = ltb-false k (groupsIn v) e in
+            let line : 1 + groupsIn v + (k - groupsIn v) ≡ suc k = omega arith in
+            rw e (rw (rw line at (s .slot-lines (k - groupsIn v) (omega arith))))
+
 -- A number taken from a well-formed slot line is the one that it states.
-slot-reads : (v : View) (j : ℕ) {t : ℕ} → v .slotAt (slotLineIn v j) ≡ some t → slotIn v j ≡ t
+pub slotIn-reads : (v : View) (j : ℕ) {t : ℕ} → v .slotAt (slotLineIn v j) ≡ some t → slotIn v j ≡ t
 unfolding slotIn
-slot-reads v j e = rw e
+slotIn-reads v j e = rw e
 
 -- Where the line of a slot is well formed, looking at it decides by its tag.
 slot-looked : (v : View) (t j : ℕ) (next : Outcome Found) {u : ℕ} → v .slotAt (slotLineIn v j) ≡ some u
@@ -91,6 +122,16 @@ placed-own v j t e placed =
     go g (inl h) = inl (eqb-true j (candidateIn v g 0 t) h)
     go g (inr h) = inr (eqb-true j (candidateIn v g 1 t) h)
 
+-- And a slot with a tag of its group at one of the tag's places is not misplaced.
+pub own-placed : (v : View) (j t : ℕ) → slotIn v j ≡ t → ownGroup v t ≡ groupOfSlot v j
+    → (j ≡ candidateIn v (groupOfSlot v j) 0 t) ⊎ (j ≡ candidateIn v (groupOfSlot v j) 1 t) → misplaced v j ≡ false
+unfolding misplaced
+own-placed v j t e group spots = rw (e, eq-eqb (ownGroup v t) (groupOfSlot v j) group) (go (groupOfSlot v j) spots)
+  where
+    go : (g : ℕ) → (j ≡ candidateIn v g 0 t) ⊎ (j ≡ candidateIn v g 1 t) → not (eqb j (candidateIn v g 0 t) || eqb j (candidateIn v g 1 t)) ≡ false
+    go g (inl h) = rw (eq-eqb j (candidateIn v g 0 t) h)
+    go g (inr h) = rw (eq-eqb j (candidateIn v g 1 t) h, or-true)
+
 module _ (v : View) (sound : Sound v) (many : 0 < groupsIn v) where
   fair : AllFair v
   fair g lt = fair-of-faulty g (startIn v g) (endIn v g) (sound .not-faulty g lt)
@@ -102,12 +143,12 @@ module _ (v : View) (sound : Sound v) (many : 0 < groupsIn v) where
     -- A slot that holds the tag lies in the tag's group, at one of its two places.
     slot-lies : (j : ℕ) → HoldsTag v j t → LiesIn v j (ownGroup v t)
     slot-lies j h =
-        let (group, spots) = placed-own v j t (slot-reads v j (h .tag)) (sound .placed j (h .slot)) in
+        let (group, spots) = placed-own v j t (slotIn-reads v j (h .tag)) (sound .placed j (h .slot)) in
         rw group (groupOfSlot-lies v fair j many (h .slot))
 
     slot-own : (j : ℕ) → HoldsTag v j t → (j ≡ ownSlot v 0 t) ⊎ (j ≡ ownSlot v 1 t)
     slot-own j h =
-        let (group, spots) = placed-own v j t (slot-reads v j (h .tag)) (sound .placed j (h .slot)) in
+        let (group, spots) = placed-own v j t (slotIn-reads v j (h .tag)) (sound .placed j (h .slot)) in
         rw group spots
 
     -- No two slots hold one tag.
@@ -116,9 +157,9 @@ module _ (v : View) (sound : Sound v) (many : 0 < groupsIn v) where
     not-twice i j hi hj lt =
         let test : ℕ → Bool = λ i. leb (startIn v (groupOfSlot v j)) i && eqb (slotIn v i) (slotIn v j) in
         let none-lower = first-none test j (none-of-isSome (first test j) (sound .once j (hj .slot))) i lt in
-        let (group, spots) = placed-own v j t (slot-reads v j (hj .tag)) (sound .placed j (hj .slot)) in
+        let (group, spots) = placed-own v j t (slotIn-reads v j (hj .tag)) (sound .placed j (hj .slot)) in
         let from : startIn v (groupOfSlot v j) ≤ i = rw group at ((slot-lies i hi) .from) in
-        let same : slotIn v i ≡ slotIn v j = slot-reads v i (hi .tag) ∙ sym (slot-reads v j (hj .tag)) in
+        let same : slotIn v i ≡ slotIn v j = slotIn-reads v i (hi .tag) ∙ sym (slotIn-reads v j (hj .tag)) in
         true≢false (sym (rw (le-leb (startIn v (groupOfSlot v j)) i from, eq-eqb (slotIn v i) (slotIn v j) same)) ∙ none-lower)
 
     pub holds-once : (i j : ℕ) → HoldsTag v i t → HoldsTag v j t → i ≡ j

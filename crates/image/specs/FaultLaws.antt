@@ -33,6 +33,15 @@ fair-of-faulty g start next e =
       small = ltb-false (start + groupMax) next large;
     }
 
+pub faulty-of-fair : (g start next : ℕ) → Fair g start next → faulty g start next ≡ false
+unfolding faulty
+faulty-of-fair g start next fair =
+    rw (le-ltb next start (fair .ascends), le-ltb (start + groupMax) next (fair .small)) (go (eqb g 0) refl)
+  where
+    go : (b : Bool) → eqb g 0 ≡ b → ((b && not (eqb start 0)) || false) ≡ false
+    go true e = rw (eq-eqb start 0 (fair .zero-first (eqb-true g 0 e)))
+    go false e = refl
+
 -- Slot j lies in group g.
 pub record LiesIn (v : View) (j g : ℕ) : Type 0 where
   pub group : g < groupsIn v

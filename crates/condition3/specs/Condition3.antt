@@ -1,0 +1,87 @@
+-- CONDITION 3, one claim about a building and all lookups in what it wrote: a relation of the list, B, L, the buffer's length,
+-- building's answer and the bytes left. It says what holds, and names no definition by which building is specified.
+-- Assumes nothing.
+use mathlib.Core.Path.{_≡_}
+use mathlib.Core.Logic.{_↔_}
+use mathlib.Core.Bool.{Bool, true, false}
+use mathlib.Core.List.{List}
+use Prim.Native.Nat.{ℕ, suc, _+_, _*_, _≤_, _<_}
+use lib.ListN.{length, getD, take}
+use Rattle.refusal.specs.Limits.{tagEnd}
+use Rattle.refusal.specs.Outcome.{Outcome, answered, refused}
+use Rattle.text.specs.Line.{lineAt, pairLine}
+use Rattle.filling.specs.Places.{occurs}
+use Rattle.filling.specs.Filling.{Fills}
+use Rattle.filling.specs.Least.{NotAfter}
+use Rattle.group.specs.Group.{groupUnder}
+use Rattle.image.specs.Lookup.{Found, number, unknown, lookupOf}
+use Rattle.building.specs.Members.{members, startOf}
+use Rattle.building.specs.Number.{numberOf}
+
+-- The places of group g's tags under a seed: a sequence that fills them gives each tag a place of its own.
+abbrev pub GroupFills : ℕ → List ℕ → ℕ → ℕ → List Bool → Type 0
+GroupFills groups tags g s choices = Fills (groupUnder (members groups g tags) s) choices
+
+-- "No sequence of choices whatever, first or second place for each tag of a group, makes a seed … give each of its tags a place of
+-- its own."
+abbrev pub NothingFills : ℕ → List ℕ → ℕ → ℕ → Type 0
+NothingFills groups tags g s = (choices : List Bool) → GroupFills groups tags g s choices → ⊥
+
+-- A seed below the limit under which such a sequence exists.
+pub record HasSeed (groups : ℕ) (tags : List ℕ) (limit g : ℕ) : Type 0 where
+  pub seed : ℕ
+  pub below : seed < limit
+  pub choices : List Bool
+  pub fills : GroupFills groups tags g seed choices
+
+-- "the lowest such group": the lowest group without a seed below the limit.
+pub record LowestWithout (groups : ℕ) (tags : List ℕ) (limit g : ℕ) : Type 0 where
+  pub group : g < groups
+  pub without : (s : ℕ) → s < limit → NothingFills groups tags g s
+  pub lower : (h : ℕ) → h < g → HasSeed groups tags limit h
+
+-- "The earlier checks are those that building makes before 7": the six conditions on the inputs.
+pub record EarlierChecks (tags : List ℕ) (groups limit room : ℕ) : Type 0 where
+  pub groups-legal : (1 ≤ groups) × (groups ≤ 512)
+  pub limit-legal : (1 ≤ limit) × (limit ≤ 65536)
+  pub count-legal : length tags ≤ 4096
+  pub ascending : (i : ℕ) → suc i < length tags → getD tags i 0 < getD tags (suc i) 0
+  pub fits : 11 * (1 + groups + length tags) ≤ room
+  pub groups-small : (g : ℕ) → g < groups → length (members groups g tags) ≤ 24
+
+-- The tag of the list whose number is j.
+pub record TagOf (tags : List ℕ) (numberFor : ℕ → ℕ) (j : ℕ) : Type 0 where
+  pub tag : ℕ
+  pub listed : occurs tag tags ≡ true
+  pub number-is : numberFor tag ≡ j
+  pub only : (t : ℕ) → occurs t tags ≡ true → numberFor t ≡ j → t ≡ tag
+
+-- What holds of an accepted building that answered `size` and left the buffer `after`. "The written image is the buffer's first
+-- bytes, as many as building answers, as building left them." The seeds and sequences taken serve lines, numbers and lookups alike.
+pub record Accepted (tags : List ℕ) (groups limit : ℕ) (after : List ℕ) (size : ℕ) : Type 0 where
+  pub seed : ℕ → ℕ
+  pub choices : ℕ → List Bool
+  -- The length, and the seed in each group's line of the written image, which is below the limit.
+  pub whole : size ≡ 11 * (1 + groups + length tags)
+  pub line : (g : ℕ) → g < groups → lineAt (suc g) (take size after) ≡ pairLine (startOf groups g tags) (seed g)
+  pub below-limit : (g : ℕ) → g < groups → seed g < limit
+  -- The sequence taken fills under that seed and is the least that does; under a seed passed over nothing fills.
+  pub fills : (g : ℕ) → g < groups → GroupFills groups tags g (seed g) (choices g)
+  pub least : (g : ℕ) → g < groups → (other : List Bool) → GroupFills groups tags g (seed g) other → NotAfter (choices g) other
+  pub passed-over : (g : ℕ) → g < groups → (s : ℕ) → s < seed g → NothingFills groups tags g s
+  -- "each number below N belongs to exactly one of its tags and each of its tags has exactly one of them"
+  pub number-below : (t : ℕ) → occurs t tags ≡ true → numberOf groups tags seed choices t < length tags
+  pub number-once : (j : ℕ) → j < length tags → TagOf tags (numberOf groups tags seed choices) j
+  -- "for every tag there is, lookup in the written image answers the tag's number if it is in the list, and unknown if it is not"
+  pub listed : (t : ℕ) → t < tagEnd → occurs t tags ≡ true → lookupOf (take size after) t ≡ answered (number (numberOf groups tags seed choices t))
+  pub unlisted : (t : ℕ) → t < tagEnd → occurs t tags ≡ false → lookupOf (take size after) t ≡ answered unknown
+
+pub record Condition3 (tags : List ℕ) (groups limit room : ℕ) (answer : Outcome ℕ) (after : List ℕ) : Type 0 where
+  pub accepted : (size : ℕ) → answer ≡ answered size → Accepted tags groups limit after size
+  -- "where refusal 7 names the group", every seed below L is passed over.
+  pub no-seed : (g : ℕ) → answer ≡ refused 7 g → (s : ℕ) → s < limit → NothingFills groups tags g s
+  -- "A list that passes all earlier checks is refused for want of a seed exactly when some group has no seed below the limit under
+  -- which such a sequence exists, and the refusal names the lowest such group."
+  pub refused-7 : EarlierChecks tags groups limit room → (g : ℕ) → (answer ≡ refused 7 g) ↔ LowestWithout groups tags limit g
+  -- and otherwise it is accepted.
+  pub otherwise : EarlierChecks tags groups limit room → ((g : ℕ) → LowestWithout groups tags limit g → ⊥) → answer ≡ answered (11 * (1 + groups + length tags))
