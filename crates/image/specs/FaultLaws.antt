@@ -2,7 +2,7 @@
 -- Assumes nothing.
 use mathlib.Core.Path.{_≡_, refl, sym, _∙_}
 use mathlib.Core.Logic.{_⊎_, inl, inr}
-use mathlib.Core.Bool.{Bool, true, false, cond, not, _&&_, _||_, true≢false}
+use mathlib.Core.Bool.{Bool, true, false, cond, not, _&&_, _||_, true≢false, or-true, or-false}
 use mathlib.Core.Option.{Option, none, some, Option·getD}
 use Prim.Native.Nat.{ℕ, zero, suc, _+_, _-_, _≤_, _<_}
 use native.Mathlib.Nat.{add-zero}
@@ -41,6 +41,20 @@ faulty-of-fair g start next fair =
     go : (b : Bool) → eqb g 0 ≡ b → ((b && not (eqb start 0)) || false) ≡ false
     go true e = rw (eq-eqb start 0 (fair .zero-first (eqb-true g 0 e)))
     go false e = refl
+
+-- The ways in which a group is faulty.
+pub faulty-falls : (g start next : ℕ) → next < start → faulty g start next ≡ true
+unfolding faulty
+faulty-falls g start next falls = rw (lt-ltb next start falls, or-true)
+
+pub faulty-large : (g start next : ℕ) → start + groupMax < next → faulty g start next ≡ true
+unfolding faulty
+faulty-large g start next large = rw (lt-ltb (start + groupMax) next large, or-true, or-true)
+
+pub faulty-first : (start next : ℕ) → start ≤ next → next ≤ start + groupMax → faulty 0 start next ≡ not (eqb start 0)
+unfolding faulty
+faulty-first start next ascends small =
+    rw (le-ltb next start ascends, le-ltb (start + groupMax) next small) (or-false (not (eqb start 0)))
 
 -- Slot j lies in group g.
 pub record LiesIn (v : View) (j g : ℕ) : Type 0 where
