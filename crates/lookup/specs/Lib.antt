@@ -1,0 +1,4 @@
+pub mod Answer
+pub mod Steps
+pub mod StepsLaws
+pub mod Condition2

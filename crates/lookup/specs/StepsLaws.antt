@@ -1,0 +1,163 @@
+-- Each step of a lookup, by what the lines read as. Assumes nothing.
+use mathlib.Core.Path.{_≡_, refl, sym, _∙_, ap}
+use mathlib.Core.Bool.{Bool, true, false, cond, not, _&&_, _||_, or-true}
+use mathlib.Core.List.{List, [], _∷_, _++_}
+use mathlib.Core.Option.{Option, none, some, Option·getD, Option·map}
+use Prim.Native.Nat.{ℕ, suc, _+_, _-_, _≤_, _<_}
+use native.Mathlib.Omega.{arith}
+use lib.Dec.{eqb, ltb}
+use borrow.Author.Tests.{eq-eqb, ne-eqb, lt-ltb, le-ltb, ltb-true, ltb-false}
+use Rattle.refusal.specs.Outcome.{Outcome, answered, refused}
+use Rattle.refusal.specs.First.{metAt, isSome}
+use Rattle.refusal.specs.Checks.{inOrder}
+use Rattle.refusal.specs.ChecksLaws.{inOrder-append}
+use Rattle.hash.specs.Formula.{groupOf, placeOf}
+use Rattle.text.specs.Line.{lineAt, groupLine, slotLine}
+use Rattle.image.specs.View.{View, viewOf, countIn, groupsIn, startIn, seedIn, endIn, slotLineIn, slotIn, faulty, candidateIn}
+use Rattle.image.specs.Checking.{openingChecks}
+use Rattle.image.specs.Lookup.{Found, number, unknown, lookupChecks, atSlot, lookupInGroup, lookupOf}
+use Rattle.opening.specs.Opening.{openingOf}
+use Rattle.opening.specs.OpeningLaws.{opening-refused, opening-passes, Opens, opening-answered}
+use Rattle.lookup.specs.Steps.{endOf, groupChecks, slotsOf, groupOutcome}
+
+module _ (image : List ℕ) where
+  -- Where a group ends.
+  pub end-of-last : {count groups : ℕ} → Opens image count groups → (g : ℕ) → suc g ≡ groups → endOf (viewOf image) g ≡ some count
+  unfolding endOf
+  end-of-last {count} {groups} opens g last =
+      let v = viewOf image in
+      let past : groupsIn v ≤ suc g = omega (arith, opens .groups-is) in
+      rw (le-ltb (suc g) (groupsIn v) past, opens .count-is)
+
+  pub end-of-next : {count groups : ℕ} → Opens image count groups → (g : ℕ) → suc g < groups → (o : Option (ℕ × ℕ)) → groupLine (lineAt (suc (suc g)) image) ≡ o
+      → endOf (viewOf image) g ≡ Option·map (λ h. h .0) o
+  unfolding endOf viewOf
+  end-of-next opens g lt o e =
+      let below : suc g < groupsIn (viewOf image) = omega (arith, opens .groups-is) in
+      rw (lt-ltb (suc g) (groupsIn (viewOf image)) below, e)
+
+  -- A slot looked at.
+  module _ (groups t j : ℕ) (same : groupsIn (viewOf image) ≡ groups) (next : Outcome Found) where
+    line-of : slotLineIn (viewOf image) j ≡ 1 + groups + j
+    unfolding slotLineIn
+    line-of = rw same
+
+    pub slot-malformed : slotLine (lineAt (1 + groups + j) image) ≡ none → atSlot (viewOf image) t j next ≡ refused 12 (1 + groups + j)
+    unfolding atSlot inOrder metAt isSome viewOf
+    slot-malformed e = rw (line-of, e)
+
+    pub slot-holds : slotLine (lineAt (1 + groups + j) image) ≡ some t → atSlot (viewOf image) t j next ≡ answered (number j)
+    unfolding atSlot inOrder metAt isSome slotIn viewOf
+    slot-holds e = rw (line-of, e, eq-eqb t t refl)
+
+    pub slot-other : {u : ℕ} → slotLine (lineAt (1 + groups + j) image) ≡ some u → (u ≡ t → ⊥) → atSlot (viewOf image) t j next ≡ next
+    unfolding atSlot inOrder metAt isSome slotIn viewOf
+    slot-other {u} e other = rw (line-of, e, ne-eqb u t other)
+
+  -- The slots of an empty group, and of another.
+  module _ (start end seed t : ℕ) where
+    pub slots-empty : start ≡ end → slotsOf (viewOf image) start end seed t ≡ answered unknown
+    unfolding slotsOf
+    slots-empty e = rw (eq-eqb start end e)
+
+    -- In another, the slot of choice 0 and then the slot of choice 1; p and q are the tag's places.
+    module _ (groups : ℕ) (same : groupsIn (viewOf image) ≡ groups) (filled : start ≡ end → ⊥) (p : ℕ) (place : p ≡ placeOf (end - start) seed 0 t) where
+      looked : slotsOf (viewOf image) start end seed t ≡ atSlot (viewOf image) t (start + p) (atSlot (viewOf image) t (start + placeOf (end - start) seed 1 t) (answered unknown))
+      unfolding slotsOf
+      looked = rw (ne-eqb start end filled, place)
+
+      pub first-malformed : slotLine (lineAt (1 + groups + (start + p)) image) ≡ none → slotsOf (viewOf image) start end seed t ≡ refused 12 (1 + groups + (start + p))
+      first-malformed e = looked ∙ slot-malformed groups t (start + p) same _ e
+
+      pub first-holds : slotLine (lineAt (1 + groups + (start + p)) image) ≡ some t → slotsOf (viewOf image) start end seed t ≡ answered (number (start + p))
+      first-holds e = looked ∙ slot-holds groups t (start + p) same _ e
+
+      module _ (u : ℕ) (line : slotLine (lineAt (1 + groups + (start + p)) image) ≡ some u) (other : u ≡ t → ⊥) (q : ℕ) (place′ : q ≡ placeOf (end - start) seed 1 t) where
+        passed : slotsOf (viewOf image) start end seed t ≡ atSlot (viewOf image) t (start + q) (answered unknown)
+        passed = looked ∙ slot-other groups t (start + p) same _ line other ∙ rw place′
+
+        pub second-malformed : slotLine (lineAt (1 + groups + (start + q)) image) ≡ none → slotsOf (viewOf image) start end seed t ≡ refused 12 (1 + groups + (start + q))
+        second-malformed e = passed ∙ slot-malformed groups t (start + q) same (answered unknown) e
+
+        pub second-holds : slotLine (lineAt (1 + groups + (start + q)) image) ≡ some t → slotsOf (viewOf image) start end seed t ≡ answered (number (start + q))
+        second-holds e = passed ∙ slot-holds groups t (start + q) same (answered unknown) e
+
+        pub neither-holds : (w : ℕ) → slotLine (lineAt (1 + groups + (start + q)) image) ≡ some w → (w ≡ t → ⊥) → slotsOf (viewOf image) start end seed t ≡ answered unknown
+        neither-holds w e other′ = passed ∙ slot-other groups t (start + q) same (answered unknown) e other′
+
+  -- The group's lines, its fault, its slots.
+  module _ (t g line : ℕ) (at : line ≡ suc g) where
+    pub own-malformed : groupLine (lineAt line image) ≡ none → groupOutcome (viewOf image) t g ≡ refused 12 line
+    unfolding groupOutcome groupChecks inOrder metAt isSome viewOf
+    own-malformed e = rw (← at, e)
+
+    module _ (start seed : ℕ) (own′ : groupLine (lineAt line image) ≡ some (start, seed)) where
+      own : groupLine (lineAt (suc g) image) ≡ some (start, seed)
+      own = rw at at own′
+
+      start-is : startIn (viewOf image) g ≡ start
+      unfolding startIn viewOf
+      start-is = ap (λ (o : Option (ℕ × ℕ)). (Option·getD o (0, 0)) .0) own
+
+      seed-is : seedIn (viewOf image) g ≡ seed
+      unfolding seedIn viewOf
+      seed-is = ap (λ (o : Option (ℕ × ℕ)). (Option·getD o (0, 0)) .1) own
+
+      -- The second check, by where the group ends.
+      next-is : (o : Option ℕ) → endOf (viewOf image) g ≡ o
+          → (ltb (suc g) (groupsIn (viewOf image)) && not (isSome (viewOf image .groupAt (suc (suc g))))) ≡ not (isSome o)
+      unfolding endOf isSome
+      next-is o e = go (ltb (suc g) (groupsIn (viewOf image))) (viewOf image .groupAt (suc (suc g))) refl refl
+        where
+          v : View
+          v = viewOf image
+
+          go : (b : Bool) (p : Option (ℕ × ℕ)) → ltb (suc g) (groupsIn v) ≡ b → v .groupAt (suc (suc g)) ≡ p
+              → (ltb (suc g) (groupsIn v) && not (isSome (v .groupAt (suc (suc g))))) ≡ not (isSome o)
+          go true none f h = rw (f, h) (ap (λ (q : Option ℕ). not (isSome q)) (rw (f, h) at e))
+          go true (some p) f h = rw (f, h) (ap (λ (q : Option ℕ). not (isSome q)) (rw (f, h) at e))
+          go false p f h = rw f (ap (λ (q : Option ℕ). not (isSome q)) (rw f at e))
+
+      own-is : viewOf image .groupAt (suc g) ≡ some (start, seed)
+      unfolding viewOf
+      own-is = own
+
+      pub next-malformed : endOf (viewOf image) g ≡ none → groupOutcome (viewOf image) t g ≡ refused 12 (line + 1)
+      unfolding groupOutcome groupChecks inOrder metAt isSome
+      next-malformed e = let after : line + 1 ≡ suc (suc g) = omega arith in rw (after, own-is, next-is none e)
+
+      module _ (end : ℕ) (ends : endOf (viewOf image) g ≡ some end) where
+        end-is : endIn (viewOf image) g ≡ end
+        unfolding endIn startIn endOf
+        end-is = go (ltb (suc g) (groupsIn (viewOf image))) (viewOf image .groupAt (suc (suc g))) refl refl
+          where
+            v : View
+            v = viewOf image
+
+            go : (b : Bool) (p : Option (ℕ × ℕ)) → ltb (suc g) (groupsIn v) ≡ b → v .groupAt (suc (suc g)) ≡ p → endIn v g ≡ end
+            go true none f h = let z = rw (f, h) at ends in cc
+            go true (some p) f h = let z : some (p .0) ≡ some end = rw (f, h) at ends in rw f (ap (λ (o : Option (ℕ × ℕ)). (Option·getD o (0, 0)) .0) h ∙ cc)
+            go false p f h = let z : some (countIn v) ≡ some end = rw f at ends in rw f (cc)
+
+        -- The group is faulty, ends past N, or its slots are looked at.
+        pub group-faulty : (faulty g start end || ltb (countIn (viewOf image)) end) ≡ true → groupOutcome (viewOf image) t g ≡ refused 13 g
+        unfolding groupOutcome groupChecks inOrder metAt isSome
+        group-faulty e = rw (own-is, next-is (some end) ends, start-is, end-is, e)
+
+        pub group-slots : faulty g start end ≡ false → end ≤ countIn (viewOf image) → groupOutcome (viewOf image) t g ≡ slotsOf (viewOf image) start end seed t
+        unfolding groupOutcome groupChecks inOrder metAt isSome
+        group-slots fair within =
+            rw (own-is, next-is (some end) ends, start-is, end-is, seed-is, fair, le-ltb (countIn (viewOf image)) end within)
+
+  -- The opening, and what stands behind it.
+  pub lookup-unopened : (t : ℕ) {reason place : ℕ} → openingOf image ≡ refused reason place → lookupOf image t ≡ refused reason place
+  unfolding lookupOf lookupInGroup lookupChecks
+  lookup-unopened t e = inOrder-append (openingChecks (viewOf image)) _ _ ∙ opening-refused image e _
+
+  pub lookup-opened : {count groups : ℕ} → openingOf image ≡ answered (count, groups) → (t : ℕ)
+      → lookupOf image t ≡ groupOutcome (viewOf image) t (groupOf groups t)
+  unfolding lookupOf lookupInGroup lookupChecks groupOutcome groupChecks slotsOf candidateIn
+  lookup-opened e t =
+      inOrder-append (openingChecks (viewOf image)) _ _
+      ∙ opening-passes image e _
+      ∙ ap (λ (b : ℕ). groupOutcome (viewOf image) t (groupOf b t)) ((opening-answered image e) .groups-is)
