@@ -6,3 +6,7 @@ pub mod Least
 pub mod LeastLaws
 pub mod Word
 pub mod WordLaws
+pub mod Touched
+pub mod TouchedLaws
+pub mod Eviction
+pub mod EvictionLaws

@@ -151,16 +151,16 @@ getD-distinct (x ∷ xs) h =
         omega (arith, h zero (suc (at .index)) (omega arith) (omega arith) (sym (at .value)))
 
 -- The numbers below n, the greatest first.
-numbersBelow : ℕ → List ℕ
+pub numbersBelow : ℕ → List ℕ
 numbersBelow zero = []
 numbersBelow (suc n) = n ∷ numbersBelow n
 
-numbersBelow-length : (n : ℕ) → length (numbersBelow n) ≡ n
+pub numbersBelow-length : (n : ℕ) → length (numbersBelow n) ≡ n
 unfolding numbersBelow
 numbersBelow-length zero = refl
 numbersBelow-length (suc n) = ap suc (numbersBelow-length n)
 
-numbersBelow-occurs : (n v : ℕ) → v < n → occurs v (numbersBelow n) ≡ true
+pub numbersBelow-occurs : (n v : ℕ) → v < n → occurs v (numbersBelow n) ≡ true
 unfolding numbersBelow
 numbersBelow-occurs zero v lt = absurd (omega arith)
 numbersBelow-occurs (suc n) v lt = go (ltb v n) refl (numbersBelow-occurs n v)

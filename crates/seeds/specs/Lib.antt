@@ -1,0 +1,5 @@
+pub mod Answer
+pub mod Occupancy
+pub mod OccupancyLaws
+pub mod Laid
+pub mod LaidLaws
