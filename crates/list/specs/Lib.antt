@@ -1,1 +1,5 @@
 pub mod Reading
+pub mod Answer
+pub mod ReadingLaws
+pub mod Text
+pub mod TextLaws

@@ -2,6 +2,7 @@ pub mod BoolLaws
 pub mod Limits
 pub mod LimitsLaws
 pub mod Outcome
+pub mod OutcomeLaws
 pub mod First
 pub mod FirstLaws
 pub mod Checks

@@ -18,3 +18,13 @@ pub fn refusal(r: Refusal) {
     words(b" at ");
     number(r.place as u64);
 }
+
+// Each number, with a space before it.
+pub fn numbers(cells: &[u32]) {
+    let mut i = 0;
+    while i < cells.len() {
+        words(b" ");
+        number(cells[i] as u64);
+        i += 1;
+    }
+}

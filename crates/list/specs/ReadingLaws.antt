@@ -1,0 +1,134 @@
+-- Each way in which reading ends, the tags line by line, and that reading a list text gives back what it states. Assumes nothing.
+use mathlib.Core.Path.{_≡_, refl, sym, _∙_, ap}
+use mathlib.Core.Bool.{Bool, true, false, not, _||_, or-true}
+use mathlib.Core.List.{List, [], _∷_, _++_}
+use mathlib.Core.Option.{Option, none, some, Option·getD}
+use Prim.Native.Nat.{ℕ, zero, suc, _+_, _-_, _*_, _/_, _%_, _≤_, _<_}
+use native.Mathlib.Omega.{arith}
+use native.Mathlib.Numerals.{add-one}
+use native.Mathlib.Nat.{add-zero, add-suc}
+use lib.Dec.{eqb, ltb}
+use lib.ListN.{length, set, drop, length-append}
+use lib.Seq.{drop-cons, set-at, append-snoc}
+use borrow.Author.Tests.{lt-ltb, le-ltb, ltb-false, eq-eqb, ne-eqb}
+use Rattle.refusal.specs.Limits.{tagsMax}
+use Rattle.refusal.specs.Outcome.{Outcome, answered, refused, answeredBy}
+use Rattle.refusal.specs.OutcomeLaws.{answered-of-by}
+use Rattle.refusal.specs.BoolLaws.{neither-of-or}
+use Rattle.refusal.specs.First.{first, metAt, isSome}
+use Rattle.refusal.specs.FirstLaws.{first-zero, first-found, first-out}
+use Rattle.refusal.specs.Checks.{met, inOrder}
+use Rattle.refusal.specs.ChecksLaws.{Pass, inOrder-answered, false-of-met}
+use Rattle.text.specs.Line.{lineLength, lineAt, listHeader, listLine}
+use Rattle.list.specs.Reading.{Listed, malformed, lineCount, tagCount, tagsFrom, listedIn, readingChecks, readingOf, cellsAfter}
+use Rattle.list.specs.Answer.{ListHead, headOf}
+
+-- A line by what it reads as.
+pub header-well : (text : List ℕ) {h : ℕ × ℕ} → listHeader (lineAt 0 text) ≡ some h → malformed text 0 ≡ false
+unfolding malformed isSome
+header-well text e = rw e
+
+pub header-malformed : (text : List ℕ) → listHeader (lineAt 0 text) ≡ none → malformed text 0 ≡ true
+unfolding malformed isSome
+header-malformed text e = rw e
+
+pub line-well : (text : List ℕ) (k : ℕ) {t : ℕ} → 0 < k → listLine (lineAt k text) ≡ some t → malformed text k ≡ false
+unfolding malformed isSome
+line-well text zero lt e = absurd (omega arith)
+line-well text (suc k) lt e = rw e
+
+pub line-malformed : (text : List ℕ) (k : ℕ) → 0 < k → listLine (lineAt k text) ≡ none → malformed text k ≡ true
+unfolding malformed isSome
+line-malformed text zero lt e = absurd (omega arith)
+line-malformed text (suc k) lt e = rw e
+
+-- So many tags are so many, and one more is the next line's.
+pub tagsFrom-length : (count k : ℕ) (text : List ℕ) → length (tagsFrom count k text) ≡ count
+unfolding tagsFrom
+tagsFrom-length zero k text = refl
+tagsFrom-length (suc count) k text = ap suc (tagsFrom-length count (suc k) text)
+
+pub tagsFrom-more : (count k : ℕ) (text : List ℕ)
+    → tagsFrom (suc count) k text ≡ tagsFrom count k text ++ (Option·getD (listLine (lineAt (k + count) text)) 0 ∷ [])
+unfolding tagsFrom
+tagsFrom-more zero k text = rw add-zero
+tagsFrom-more (suc count) k text =
+    let e : k + suc count ≡ suc k + count = omega arith in
+    rw (e, tagsFrom-more count (suc k) text)
+
+-- One cell more is filled.
+pub cells-more : (i : ℕ) (text before cells : List ℕ) (t : ℕ) → i < length before → cells ≡ tagsFrom i 1 text ++ drop i before
+    → t ≡ Option·getD (listLine (lineAt (i + 1) text)) 0 → set cells i t ≡ tagsFrom (i + 1) 1 text ++ drop (i + 1) before
+cells-more i text before cells t lt e value =
+    let next : 1 + i ≡ i + 1 = omega arith in
+    rw (e, drop-cons before i 0 lt)
+    (set-at (tagsFrom i 1 text) _ (drop (suc i) before) t i (tagsFrom-length i 1 text)
+    ∙ rw (add-one i, tagsFrom-more i 1 text, append-snoc, ← add-one i) (rw (value, next)))
+
+-- The ways in which reading ends, in the order of its checks.
+module _ (text : List ℕ) (cells : ℕ) where
+  pub read-short : length text < lineLength → readingOf text cells ≡ refused 16 0
+  unfolding readingOf readingChecks inOrder met metAt
+  read-short short = rw (lt-ltb (length text) lineLength short)
+
+  pub read-uneven : lineLength ≤ length text → (length text % lineLength ≡ 0 → ⊥) → readingOf text cells ≡ refused 16 0
+  unfolding readingOf readingChecks inOrder met metAt
+  read-uneven long uneven = rw (le-ltb (length text) lineLength long, ne-eqb (length text % lineLength) 0 uneven)
+
+  module _ (long : lineLength ≤ length text) (even : length text % lineLength ≡ 0) where
+    pub read-malformed : {k : ℕ} → first (malformed text) (lineCount text) ≡ some k → readingOf text cells ≡ refused 16 k
+    unfolding readingOf readingChecks inOrder met metAt
+    read-malformed e = rw (le-ltb (length text) lineLength long, even, e)
+
+    pub read-header-malformed : malformed text 0 ≡ true → readingOf text cells ≡ refused 16 0
+    unfolding lineCount
+    read-header-malformed e = read-malformed (first-zero (malformed text) (lineCount text) e (omega arith))
+
+    module _ (well : first (malformed text) (lineCount text) ≡ none) where
+      pub read-many : tagsMax < tagCount text → readingOf text cells ≡ refused 5 0
+      unfolding readingOf readingChecks inOrder met metAt
+      read-many many = rw (le-ltb (length text) lineLength long, even, well, lt-ltb tagsMax (tagCount text) many)
+
+      module _ (few : tagCount text ≤ tagsMax) where
+        pub read-narrow : cells < tagCount text → readingOf text cells ≡ refused 9 0
+        unfolding readingOf readingChecks inOrder met metAt
+        read-narrow narrow =
+            rw (le-ltb (length text) lineLength long, even, well, le-ltb tagsMax (tagCount text) few, lt-ltb cells (tagCount text) narrow)
+
+        pub read-answered : tagCount text ≤ cells → readingOf text cells ≡ answered (listedIn text)
+        unfolding readingOf readingChecks inOrder met metAt
+        read-answered wide =
+            rw (le-ltb (length text) lineLength long, even, well, le-ltb tagsMax (tagCount text) few, le-ltb cells (tagCount text) wide)
+
+-- What an accepted reading answers beside the tags.
+pub head-is : (text : List ℕ) {b l : ℕ} → listHeader (lineAt 0 text) ≡ some (b, l)
+    → headOf (listedIn text) ≡ record { groups = b; limit = l; count = tagCount text }
+unfolding headOf listedIn
+head-is text e = rw (e, tagsFrom-length (tagCount text) 1 text)
+
+-- What follows from an accepted reading.
+pub record ReadAs (text : List ℕ) (cells : ℕ) (head : ListHead) : Type 0 where
+  pub outcome : readingOf text cells ≡ answered (listedIn text)
+  pub count-is : head .count ≡ tagCount text
+  pub room : tagCount text ≤ cells
+  pub few : tagCount text ≤ tagsMax
+  pub lines : lineLength * (1 + tagCount text) ≤ length text
+
+lines-fit : (text : List ℕ) → lineLength ≤ length text → lineLength * (1 + tagCount text) ≤ length text
+unfolding tagCount lineCount
+lines-fit text long = omega arith
+
+pub read-as : (text : List ℕ) (cells : ℕ) {head : ListHead} → answeredBy headOf (readingOf text cells) ≡ answered head → ReadAs text cells head
+unfolding readingOf readingChecks listedIn headOf
+read-as text cells {head} e =
+    let (listed, outcome, same) = answered-of-by headOf (readingOf text cells) e in
+    let ((short, (well, (many, (narrow, end)))), answer) = inOrder-answered (readingChecks text cells) (answered (listedIn text)) outcome in
+    let long : lineLength ≤ length text = ltb-false (length text) lineLength ((neither-of-or (ltb (length text) lineLength) (not (eqb (length text % lineLength) 0)) (false-of-met (ltb (length text) lineLength || not (eqb (length text % lineLength) 0)) short)) .0) in
+    let is : listedIn text ≡ listed = cc in
+    record {
+      outcome = outcome ∙ sym answer;
+      count-is = ap (λ (h : ListHead). h .count) (sym same ∙ ap headOf (sym is)) ∙ tagsFrom-length (tagCount text) 1 text;
+      room = ltb-false cells (tagCount text) (false-of-met (ltb cells (tagCount text)) narrow);
+      few = ltb-false tagsMax (tagCount text) (false-of-met (ltb tagsMax (tagCount text)) many);
+      lines = lines-fit text long;
+    }
