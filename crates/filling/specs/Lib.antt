@@ -10,3 +10,8 @@ pub mod Touched
 pub mod TouchedLaws
 pub mod Eviction
 pub mod EvictionLaws
+pub mod Weight
+pub mod WeightLaws
+pub mod Insertion
+pub mod InsertionLaws
+pub mod LightestLaws

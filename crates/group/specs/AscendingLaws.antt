@@ -3,11 +3,11 @@ use mathlib.Core.Path.{_≡_, refl}
 use mathlib.Core.Bool.{Bool, true, false}
 use mathlib.Core.List.{List, [], _∷_}
 use mathlib.Core.Option.{none}
-use Prim.Native.Nat.{ℕ, zero, suc, _≤_, _<_}
+use Prim.Native.Nat.{ℕ, zero, suc, _-_, _≤_, _<_}
 use native.Mathlib.Omega.{arith}
 use lib.Dec.{ltb}
 use lib.ListN.{length, getD}
-use borrow.Author.Tests.{leb-false, lt-leb, ltb-true, ltb-false}
+use borrow.Author.Tests.{leb-false, le-leb, lt-leb, ltb-true, ltb-false}
 use Rattle.refusal.specs.FirstLaws.{first-none, first-out}
 use Rattle.filling.specs.Places.{distinct}
 use Rattle.filling.specs.PlacesLaws.{getD-distinct}
@@ -48,3 +48,20 @@ ascending-distinct tags up = getD-distinct tags (λ i j li lj e. go i j li lj e 
     go i j li lj e true q f g = absurd (omega (arith, ascending-above tags up i j (ltb-true i j f) lj))
     go i j li lj e false true f g = absurd (omega (arith, ascending-above tags up j i (ltb-true j i g) li))
     go i j li lj e false false f g = omega (arith, ltb-false i j f, ltb-false j i g)
+
+-- The test of check 6, index by index.
+pub first-above : (tags : List ℕ) → notAbove tags 0 ≡ false
+unfolding notAbove
+first-above tags = refl
+
+pub not-above : (tags : List ℕ) (i : ℕ) → 0 < i → getD tags i 0 ≤ getD tags (i - 1) 0 → notAbove tags i ≡ true
+unfolding notAbove
+not-above tags zero some le = absurd (omega arith)
+not-above tags (suc i) some le =
+    let e : suc i - 1 ≡ i = omega arith in le-leb (getD tags (suc i) 0) (getD tags i 0) (rw e at le)
+
+pub above : (tags : List ℕ) (i : ℕ) → 0 < i → getD tags (i - 1) 0 < getD tags i 0 → notAbove tags i ≡ false
+unfolding notAbove
+above tags zero some lt = absurd (omega arith)
+above tags (suc i) some lt =
+    let e : suc i - 1 ≡ i = omega arith in lt-leb (getD tags (suc i) 0) (getD tags i 0) (rw e at lt)

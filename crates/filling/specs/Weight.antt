@@ -1,0 +1,24 @@
+-- The weight of a choice sequence: the order of choices as a sum, so that the first sequence in the order is the lightest.
+-- Another order of choices is another `keyWeight`. Choices are read by index here, past the last key as well. Assumes nothing.
+use Prim.Native.Nat.{ℕ, zero, suc, _+_, _-_, _^_}
+use mathlib.Core.Bool.{Bool, true, false}
+use mathlib.Core.List.{List}
+use lib.ListN.{getD}
+
+-- What the second place of the key with index i weighs, for i up to 31: more than the second places of all later keys together.
+unfoldable pub keyWeight : ℕ → ℕ
+keyWeight i = 2 ^ (31 - i)
+
+-- What a choice weighs: nothing for the first place, the key's weight for the second.
+unfoldable pub choiceWeight : Bool → ℕ → ℕ
+choiceWeight false weight = 0
+choiceWeight true weight = weight
+
+-- What the choices of the first n keys weigh together.
+unfoldable pub total : (ℕ → ℕ) → (ℕ → Bool) → ℕ → ℕ
+total weight choices zero = 0
+total weight choices (suc n) = total weight choices n + choiceWeight (choices n) (weight n)
+
+-- A choice sequence by index: choice 0 past its end.
+abbrev pub byIndex : List Bool → ℕ → Bool
+byIndex choices i = getD choices i false

@@ -1,0 +1,77 @@
+-- `sequence::least_choices` meets its contract: the word is the lightest of the first k keys, and the lightest of all is the least.
+-- Assumes nothing.
+use Prim.Native.Nat.{_-_, _≤_}
+use mathlib.Core.Path.{_≡_}
+use native.Mathlib.Omega.{arith}
+use borrow.Author.Needs.{needs}
+use Rattle.filling.specs.InsertionLaws.{lightest-empty}
+use Rattle.insertion.specs.Inserted.{LightestWord}
+use Rattle.sequence.specs.LeastWordLaws.{lightest-word, nothing-word}
+use Rattle.sequence.proofs.least_choices.Statement.{statement}
+use Rattle.sequence.proofs.least_choices.Tie as tie
+
+abbrev Inv-loop : tie.InvT-loop
+Inv-loop places count word₀ k₀ word k = (k ≤ count) × LightestWord places k word
+
+abbrev μ-loop : tie.MeasureT-loop
+μ-loop places count word₀ k₀ word k = count - k
+
+loop-holds : tie.Need-loop-holds Inv-loop μ-loop
+loop-holds c = (omega arith, record { below = omega arith; lightest = lightest-empty _ _ _ })
+
+with-key-requires : tie.Need-with-key-requires Inv-loop μ-loop
+with-key-requires c κs =
+    let inv = c .before .loop .inv in
+    (omega arith, omega arith, inv .1)
+
+enum-known-next : tie.Need-enum-known-next Inv-loop μ-loop
+enum-known-next c = search needs
+
+enum-told : tie.Need-enum-told Inv-loop μ-loop
+enum-told c = search needs
+
+returns : tie.Need-returns Inv-loop μ-loop
+returns c =
+    let step = c .before .before in
+    let start = step .before .before .before .before in
+    let nothing = rw (c .enum-told .given .1) at (step .with-key .ensures) in
+    let a = start .args in
+    cc (nothing-word (a .places .now) (a .count) (start .pre .0) (nothing (a .count) (step .before .loop-test .taken)))
+
+add-k : tie.Need-add-k Inv-loop μ-loop
+add-k c = search needs
+
+loop-less : tie.Need-loop-less Inv-loop μ-loop
+loop-less c = search needs
+
+loop-again : tie.Need-loop-again Inv-loop μ-loop
+loop-again c =
+    let step = c .before .before .before in
+    let next = rw (c .before .next .given .1) at (step .with-key .ensures) in
+    let lt = step .before .loop-test .taken in
+    (omega arith, next)
+
+returns-2 : tie.Need-returns-2 Inv-loop μ-loop
+returns-2 c =
+    let at = c .before .loop in
+    let start = c .before .before .before in
+    let all : at .k ≡ start .args .count = omega arith in
+    let a = start .args in
+    let light = rw all at (at .inv .1) in
+    cc (lightest-word (a .places .now) (a .count) (start .pre .0) (at .word) (start .pre .1) light)
+
+pub least-choices-spec : {M : Type 1} → statement M
+least-choices-spec =
+    tie.close
+    (tie.spec
+    Inv-loop
+    μ-loop
+    loop-holds
+    with-key-requires
+    enum-known-next
+    enum-told
+    returns
+    add-k
+    loop-less
+    loop-again
+    returns-2)

@@ -1,0 +1,47 @@
+-- What an answer of `choices_under` says of the sequence taken: callers use these laws with its promise. Assumes nothing.
+use Prim.Native.Nat.{ℕ}
+use mathlib.Core.Path.{_≡_, refl, _∙_}
+use mathlib.Core.Bool.{Bool}
+use mathlib.Core.List.{List}
+use mathlib.Core.Option.{Option, none, some, Option·map}
+use Rattle.filling.specs.Filling.{Fills}
+use Rattle.filling.specs.Word.{wordOf}
+use Rattle.filling.specs.Least.{least}
+use Rattle.filling.specs.LeastLaws.{least-fills, least-least, least-none}
+use Rattle.group.specs.Group.{groupUnder, taken}
+use Rattle.group.specs.GroupLaws.{NoneFills, taken-unique}
+use Rattle.sequence.specs.Answer.{choicesMeaning}
+use Rattle.sequence.specs.declared.Choices.{Choices}
+use Rattle.sequence.specs.declared.Choices.the-variants.{Word, Nothing}
+
+-- An answer is what it means.
+answer-word : (r : Choices) {word : ℕ} → choicesMeaning r ≡ some word → r ≡ Word word
+answer-word (Word word) e = cc
+answer-word Nothing e = cc
+
+answer-nothing : (r : Choices) → choicesMeaning r ≡ none → r ≡ Nothing
+answer-nothing (Word word) e = cc
+answer-nothing Nothing e = refl
+
+module _ (tags : List ℕ) (seed : ℕ) where
+  -- The least sequence is the one taken.
+  least-taken : {cs : List Bool} → least (groupUnder tags seed) ≡ some cs → taken tags seed ≡ cs
+  least-taken {cs} e =
+      taken-unique tags seed cs (least-fills (groupUnder tags seed) e) (least-least (groupUnder tags seed) e)
+
+  module _ (r : Choices) (answer : choicesMeaning r ≡ Option·map wordOf (least (groupUnder tags seed))) where
+    -- Where something fills, the word answered is that of the sequence taken.
+    pub word-taken : (cs : List Bool) → Fills (groupUnder tags seed) cs → r ≡ Word (wordOf (taken tags seed))
+    word-taken cs f = go (least (groupUnder tags seed)) refl
+      where
+        go : (o : Option (List Bool)) → least (groupUnder tags seed) ≡ o → r ≡ Word (wordOf (taken tags seed))
+        go none e = absurd (least-none (groupUnder tags seed) e cs f)
+        go (some ds) e = answer-word r (answer ∙ rw (e, least-taken e))
+
+    -- Where nothing does, the answer is nothing.
+    pub nothing-taken : NoneFills tags seed → r ≡ Nothing
+    nothing-taken nothing = go (least (groupUnder tags seed)) refl
+      where
+        go : (o : Option (List Bool)) → least (groupUnder tags seed) ≡ o → r ≡ Nothing
+        go none e = answer-nothing r (answer ∙ rw e)
+        go (some ds) e = absurd (nothing ds (least-fills (groupUnder tags seed) e))
