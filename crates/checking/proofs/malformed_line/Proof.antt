@@ -1,0 +1,48 @@
+-- `checking::malformed_line` meets its contract: a malformed line before the slots is the first of all, and otherwise the slot lines
+-- decide. Assumes nothing.
+use borrow.Author.Needs.{needs}
+use mathlib.Core.Path.{sym, _∙_, ap}
+use Prim.Native.Nat.{_+_}
+use native.Mathlib.Omega.{arith}
+use Rattle.refusal.specs.FirstLaws.{first-more}
+use Rattle.image.specs.View.{viewOf}
+use Rattle.image.specs.Checking.{malformedIn}
+use Rattle.slots.specs.Answer.{lowestMeaning}
+use Rattle.checking.proofs.malformed_line.Statement.{statement}
+use Rattle.checking.proofs.malformed_line.Tie as tie
+
+malformed-group-line-requires : tie.Need-malformed-group-line-requires
+malformed-group-line-requires c κs = search needs
+
+enum-known-k : tie.Need-enum-known-k
+enum-known-k c = search needs
+
+returns : tie.Need-returns
+returns c =
+    let told = c .before in
+    let searched = told .before .before in
+    let a = searched .before .before .args in
+    sym (first-more (malformedIn (viewOf (a .image .now))) (1 + a .groups) (1 + a .groups + a .count) (omega arith)
+    (sym (searched .malformed-group-line .ensures) ∙ ap lowestMeaning (told .k .given .1)))
+
+enum-told : tie.Need-enum-told
+enum-told c = search needs
+
+malformed-slot-line-requires : tie.Need-malformed-slot-line-requires
+malformed-slot-line-requires c κs =
+    let searched = c .before .before in
+    (searched .before .before .pre, sym (searched .malformed-group-line .ensures) ∙ ap lowestMeaning (c .enum-told .given .1))
+
+returns-2 : tie.Need-returns-2
+returns-2 c = search needs
+
+pub malformed-line-spec : {M : Type 1} → statement M
+malformed-line-spec =
+    tie.close
+    (tie.spec
+    malformed-group-line-requires
+    enum-known-k
+    returns
+    enum-told
+    malformed-slot-line-requires
+    returns-2)
