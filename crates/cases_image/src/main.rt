@@ -32,38 +32,101 @@ fn image(name: &[u8], image: &[u8]) {
 
 // The image of the whole case; the same with another seed and choice that also fit, and with a seed for an empty group.
 fn accepted() {
-    image(b"whole case", b"    3    2\n    0    0\n    1    1\n         2\n         1\n         3\n");
-    image(b"another seed", b"    3    2\n    0    7\n    1    1\n         2\n         1\n         3\n");
+    image(
+        b"whole case",
+        b"    3    2\n    0    0\n    1    1\n         2\n         1\n         3\n",
+    );
+    image(
+        b"another seed",
+        b"    3    2\n    0    7\n    1    1\n         2\n         1\n         3\n",
+    );
     image(b"empty list", b"    0    1\n    0    0\n");
-    image(b"empty group with a seed", b"    0    2\n    0    5\n    065535\n");
+    image(
+        b"empty group with a seed",
+        b"    0    2\n    0    5\n    065535\n",
+    );
 }
 
 // 11 and 12, and which comes first.
 fn lines() {
     image(b"no bytes", b"");
     image(b"ten bytes", b"    3    2");
-    image(b"header with B = 0", b"    3    0\n    0    0\n    1    1\n         2\n         1\n         3\n");
-    image(b"header with N = 4097", b" 4097    2\n    0    0\n    1    1\n         2\n         1\n         3\n");
-    image(b"one byte short", b"    3    2\n    0    0\n    1    1\n         2\n         1\n         3");
-    image(b"one line more", b"    3    2\n    0    0\n    1    1\n         2\n         1\n         3\n         4\n");
-    image(b"own line malformed", b"    3    2\n    0   00\n    1    1\n         2\n         1\n         3\n");
-    image(b"next line malformed", b"    3    2\n    0    0\n    1     \n         2\n         1\n         3\n");
-    image(b"seed 65536", b"    3    2\n    0    0\n    165536\n         2\n         1\n         3\n");
-    image(b"slot malformed", b"    3    2\n    0    0\n    1    1\n        2 \n         1\n         3\n");
-    image(b"slot 4294967296", b"    3    2\n    0    0\n    1    1\n         2\n4294967296\n         3\n");
-    image(b"two lines malformed", b"    3    2\n    0    0\n    1    1\n         2\n        x1\n         3\r");
+    image(
+        b"header with B = 0",
+        b"    3    0\n    0    0\n    1    1\n         2\n         1\n         3\n",
+    );
+    image(
+        b"header with N = 4097",
+        b" 4097    2\n    0    0\n    1    1\n         2\n         1\n         3\n",
+    );
+    image(
+        b"one byte short",
+        b"    3    2\n    0    0\n    1    1\n         2\n         1\n         3",
+    );
+    image(
+        b"one line more",
+        b"    3    2\n    0    0\n    1    1\n         2\n         1\n         3\n         4\n",
+    );
+    image(
+        b"own line malformed",
+        b"    3    2\n    0   00\n    1    1\n         2\n         1\n         3\n",
+    );
+    image(
+        b"next line malformed",
+        b"    3    2\n    0    0\n    1     \n         2\n         1\n         3\n",
+    );
+    image(
+        b"seed 65536",
+        b"    3    2\n    0    0\n    165536\n         2\n         1\n         3\n",
+    );
+    image(
+        b"slot malformed",
+        b"    3    2\n    0    0\n    1    1\n        2 \n         1\n         3\n",
+    );
+    image(
+        b"slot 4294967296",
+        b"    3    2\n    0    0\n    1    1\n         2\n4294967296\n         3\n",
+    );
+    image(
+        b"two lines malformed",
+        b"    3    2\n    0    0\n    1    1\n         2\n        x1\n         3\r",
+    );
 }
 
 // 13: the first group, a start that falls, a group too large, an end past N; 14: another group, neither place; 15.
 fn groups_and_slots() {
-    image(b"first start 1", b"    3    2\n    1    0\n    1    1\n         2\n         1\n         3\n");
-    image(b"start past N", b"    3    2\n    0    0\n    4    1\n         2\n         1\n         3\n");
-    image(b"start 99999", b"    3    2\n    0    0\n99999    1\n         2\n         1\n         3\n");
-    image(b"group of 25", b"   25    1\n    0    0\n         1\n         2\n         3\n         4\n         5\n         6\n         7\n         8\n         9\n        10\n        11\n        12\n        13\n        14\n        15\n        16\n        17\n        18\n        19\n        20\n        21\n        22\n        23\n        24\n        25\n");
-    image(b"starts moved", b"    3    2\n    0    0\n    2    1\n         2\n         1\n         3\n");
-    image(b"tag of another group", b"    3    2\n    0    0\n    1    1\n         3\n         1\n         3\n");
-    image(b"tag at neither place", b"    3    2\n    0    0\n    1    1\n         2\n         3\n         1\n");
-    image(b"tag twice", b"    3    2\n    0    0\n    1    1\n         2\n         3\n         3\n");
+    image(
+        b"first start 1",
+        b"    3    2\n    1    0\n    1    1\n         2\n         1\n         3\n",
+    );
+    image(
+        b"start past N",
+        b"    3    2\n    0    0\n    4    1\n         2\n         1\n         3\n",
+    );
+    image(
+        b"start 99999",
+        b"    3    2\n    0    0\n99999    1\n         2\n         1\n         3\n",
+    );
+    image(
+        b"group of 25",
+        b"   25    1\n    0    0\n         1\n         2\n         3\n         4\n         5\n         6\n         7\n         8\n         9\n        10\n        11\n        12\n        13\n        14\n        15\n        16\n        17\n        18\n        19\n        20\n        21\n        22\n        23\n        24\n        25\n",
+    );
+    image(
+        b"starts moved",
+        b"    3    2\n    0    0\n    2    1\n         2\n         1\n         3\n",
+    );
+    image(
+        b"tag of another group",
+        b"    3    2\n    0    0\n    1    1\n         3\n         1\n         3\n",
+    );
+    image(
+        b"tag at neither place",
+        b"    3    2\n    0    0\n    1    1\n         2\n         3\n         1\n",
+    );
+    image(
+        b"tag twice",
+        b"    3    2\n    0    0\n    1    1\n         2\n         3\n         3\n",
+    );
 }
 
 fn main() {
