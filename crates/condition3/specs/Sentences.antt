@@ -4,6 +4,7 @@ use mathlib.Core.Logic.{_↔_}
 use mathlib.Core.Bool.{Bool, true, false, cond}
 use mathlib.Core.List.{List}
 use Prim.Native.Nat.{ℕ, suc, _+_, _*_, _<_}
+use native.Mathlib.Omega.{arith}
 use lib.ListN.{length, take}
 use Rattle.refusal.specs.Limits.{tagEnd}
 use Rattle.refusal.specs.Outcome.{Outcome, answered, refused}
@@ -59,6 +60,27 @@ module _ {tags : List ℕ} {groups limit room : ℕ} {answer : Outcome ℕ} {aft
           → lookupOf (take size after) t ≡ cond (occurs t tags) (answered (number (numberFor t))) (answered unknown)
       go t word true m = rw m (a .listed t word m)
       go t word false m = rw m (a .unlisted t word m)
+
+  -- "If two tags came to one place, a blend would be computed with another tank's sulphur": lookup never gives one number for two.
+  pub never-two : (size : ℕ) → answer ≡ answered size → (t u j : ℕ) → t < tagEnd → u < tagEnd
+      → lookupOf (take size after) t ≡ answered (number j) → lookupOf (take size after) u ≡ answered (number j) → t ≡ u
+  never-two size e t u j wt wu ft fu =
+      let (mt, nt) = holder t wt ft in
+      let (mu, nu) = holder u wu fu in
+      let below : j < length tags = rw nt at (a .number-below t mt) in
+      let one = a .number-once j below in
+      one .only t mt nt ∙ sym (one .only u mu nu)
+    where
+      a : Accepted tags groups limit after size
+      a = c .accepted size e
+
+      holder : (t : ℕ) → t < tagEnd → lookupOf (take size after) t ≡ answered (number j)
+          → (occurs t tags ≡ true) × (numberOf groups tags (a .seed) (a .choices) t ≡ j)
+      holder t word found = go (occurs t tags) refl
+        where
+          go : (b : Bool) → occurs t tags ≡ b → (occurs t tags ≡ true) × (numberOf groups tags (a .seed) (a .choices) t ≡ j)
+          go true m = let l = a .listed t word m in (m, cc)
+          go false m = let l = a .unlisted t word m in absurd (let z : _≡_ {A = ℕ} 0 1 = cc in omega arith)
 
   -- "A list that passes all earlier checks is refused for want of a seed exactly when some group has no seed below the limit under
   -- which such a sequence exists, and the refusal names the lowest such group."

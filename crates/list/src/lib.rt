@@ -116,8 +116,8 @@ fn tag_of_line(text: &[u8], k: usize) -> u32
     requires { ⌜ 11 * (1 + k) ≤ length (now text) ⌝ }
     ensures answer { λ r. ⌜ r ≡ Option·getD (listLine (lineAt k (now (text .entry)))) 0 ⌝ }
 {
-    match text::read_list_line(text, 11 * k) {
-        Tag::Number(t) => t,
-        Tag::Malformed => 0,
-    }
+    let Tag::Number(t) = text::read_list_line(text, 11 * k) else {
+        return 0;
+    };
+    t
 }

@@ -23,13 +23,14 @@ enum-told c = search needs
 
 returns : tie.Need-returns
 returns c =
-    let read = c .before .before .before in
-    sym (ap (λ (o : Option ℕ). Option·getD o 0) (line-reads tagMeaning listLine _ _ _ (read .read-list-line .ensures) (c .before .t .given .1) refl))
+    let read = c .before .before in
+    sym (ap (λ (o : Option ℕ). Option·getD o 0) (line-reads tagMeaning listLine _ _ _ (read .read-list-line .ensures) (c .enum-told .given .1) refl))
 
 returns-2 : tie.Need-returns-2
 returns-2 c =
-    let read = c .before .before in
-    sym (ap (λ (o : Option ℕ). Option·getD o 0) (line-reads tagMeaning listLine _ _ _ (read .read-list-line .ensures) (c .enum-told .given .1) refl))
+    let told = c .before in
+    let read = told .before .before in
+    sym (ap (λ (o : Option ℕ). Option·getD o 0) (line-reads tagMeaning listLine _ _ _ (read .read-list-line .ensures) (told .t .given .1) refl))
 
 pub tag-of-line-spec : {M : Type 1} → statement M
 tag-of-line-spec =
