@@ -88,6 +88,10 @@ fn lines() {
         b"    3    2\n    0    0\n    1    1\n         2\n4294967296\n         3\n",
     );
     image(
+        b"last slot malformed",
+        b"    3    2\n    0    0\n    1    1\n         2\n         1\n        03\n",
+    );
+    image(
         b"two lines malformed",
         b"    3    2\n    0    0\n    1    1\n         2\n        x1\n         3\r",
     );
@@ -126,6 +130,10 @@ fn groups_and_slots() {
     image(
         b"tag twice",
         b"    3    2\n    0    0\n    1    1\n         2\n         3\n         3\n",
+    );
+    image(
+        b"tag twice, first at its second place",
+        b"    2    1\n    0    0\n         6\n         6\n",
     );
 }
 
