@@ -2,6 +2,8 @@ pub mod Members
 pub mod MembersLaws
 pub mod Number
 pub mod NumberLaws
+pub mod Parts
+pub mod GroupSlots
 pub mod Building
 pub mod BuildingLaws
 pub mod FromText
