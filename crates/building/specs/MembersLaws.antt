@@ -2,7 +2,7 @@
 use mathlib.Core.Path.{_≡_, refl, sym, _∙_, ap}
 use mathlib.Core.Logic.{_⊎_, inl, inr}
 use mathlib.Core.Bool.{Bool, true, false, cond, not-eq-not}
-use mathlib.Core.List.{List, [], _∷_}
+use mathlib.Core.List.{List, [], _∷_, _++_}
 use Prim.Native.Nat.{ℕ, zero, suc, _+_, _-_, _≤_, _<_}
 use native.Mathlib.Nat.{add-zero, add-suc}
 use native.Mathlib.Omega.{arith}
@@ -69,6 +69,26 @@ pub select-none : (test : ℕ → Bool) (xs : List ℕ) → ((x : ℕ) → test 
 unfolding select
 select-none test [] none = refl
 select-none test (x ∷ xs) none = rw (none x, select-none test xs none)
+
+-- Selecting goes part by part, and never gives more than there is.
+pub select-append : (test : ℕ → Bool) (xs ys : List ℕ) → select test (xs ++ ys) ≡ select test xs ++ select test ys
+unfolding select
+select-append test [] ys = refl
+select-append test (x ∷ xs) ys = go (test x) (select-append test xs ys)
+  where
+    go : (b : Bool) → select test (xs ++ ys) ≡ select test xs ++ select test ys
+        → cond b (x ∷ select test (xs ++ ys)) (select test (xs ++ ys)) ≡ cond b (x ∷ select test xs) (select test xs) ++ select test ys
+    go true rest = rw rest
+    go false rest = rest
+
+pub select-length : (test : ℕ → Bool) (xs : List ℕ) → length (select test xs) ≤ length xs
+unfolding select
+select-length test [] = omega arith
+select-length test (x ∷ xs) = go (test x) (select-length test xs)
+  where
+    go : (b : Bool) → length (select test xs) ≤ length xs → length (cond b (x ∷ select test xs) (select test xs)) ≤ suc (length xs)
+    go true le = omega arith
+    go false le = omega arith
 
 -- A listed tag is a member of its group, and a member is a listed tag of the group.
 pub members-own : (groups : ℕ) (tags : List ℕ) (t : ℕ) → occurs t tags ≡ true → occurs t (members groups (groupOf groups t) tags) ≡ true

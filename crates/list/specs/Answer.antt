@@ -1,14 +1,11 @@
 -- What the code's answers mean. Assumes nothing.
 use Prim.Native.Nat.{ℕ}
-use mathlib.Core.Option.{Option, none, some}
 use lib.ListN.{length}
 use Rattle.refusal.specs.Outcome.{Outcome, answered}
 use Rattle.refusal.specs.Reason.{refusalOf}
 use Rattle.list.specs.Reading.{Listed}
 use Rattle.list.specs.declared.ListAnswer.{ListAnswer}
 use Rattle.list.specs.declared.ListAnswer.the-variants.{Listed as Read, Refused}
-use Rattle.list.specs.declared.FirstMalformed.{FirstMalformed}
-use Rattle.list.specs.declared.FirstMalformed.the-variants.{At, Nowhere}
 
 -- "B, L, the count": what reading answers beside the tags, which it leaves in the cells.
 pub record ListHead : Type 0 where
@@ -22,8 +19,3 @@ headOf listed = record { groups = listed .groups; limit = listed .limit; count =
 abbrev pub listOutcome : ListAnswer → Outcome ListHead
 listOutcome (Read groups limit count) = answered (record { groups = groups; limit = limit; count = count })
 listOutcome (Refused refusal) = refusalOf refusal
-
--- The first malformed line, if there is one.
-abbrev pub malformedMeaning : FirstMalformed → Option ℕ
-malformedMeaning (At k) = some k
-malformedMeaning Nowhere = none

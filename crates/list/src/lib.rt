@@ -1,4 +1,5 @@
 // The operation "reading a list": B, L and the tags that a list text states, for any bytes and any number of cells.
+use refusal::First;
 use refusal::Reason;
 use refusal::Refusal;
 use text::Pair;
@@ -11,20 +12,15 @@ ghost use Prim.Native.Nat.{_*_, _+_, _≤_, _<_};
 ghost use lib.ListN.{length, take, drop};
 ghost use Rattle.refusal.specs.Outcome.{refused, answeredBy};
 ghost use Rattle.refusal.specs.First.{first};
+ghost use Rattle.refusal.specs.Answer.{firstMeaning};
 ghost use Rattle.text.specs.Line.{lineAt, listLine};
 ghost use Rattle.list.specs.Reading.{malformed, tagsFrom, readingOf, cellsAfter};
-ghost use Rattle.list.specs.Answer.{headOf, listOutcome, malformedMeaning};
+ghost use Rattle.list.specs.Answer.{headOf, listOutcome};
 
 // What reading answers: B, L and the count, the tags being in the cells; or refused.
 pub enum ListAnswer {
     Listed(u32, u32, usize),
     Refused(Refusal),
-}
-
-// The first line that is malformed.
-pub enum FirstMalformed {
-    At(usize),
-    Nowhere,
 }
 
 // The operation "reading a list".
@@ -65,7 +61,7 @@ fn examine(text: &[u8], room: usize) -> ListAnswer
         return malformed(0);
     };
     let lines = text.len() / 11;
-    if let FirstMalformed::At(k) = first_malformed(text, lines) {
+    if let First::At(k) = first_malformed(text, lines) {
         return malformed(k);
     }
     let count = lines - 1;
@@ -85,18 +81,18 @@ fn examine(text: &[u8], room: usize) -> ListAnswer
 }
 
 // The first malformed line of a text of so many lines whose line 0 is well formed.
-fn first_malformed(text: &[u8], lines: usize) -> FirstMalformed
+fn first_malformed(text: &[u8], lines: usize) -> First
     requires { ⌜ (11 * lines ≤ length (now text)) × (malformed (now text) 0 ≡ false) ⌝ }
-    ensures answer { λ r. ⌜ malformedMeaning r ≡ first (malformed (now (text .entry))) lines ⌝ }
+    ensures answer { λ r. ⌜ firstMeaning r ≡ first (malformed (now (text .entry))) lines ⌝ }
 {
     let mut k = 1;
     while k < lines {
         let Tag::Number(_) = text::read_list_line(text, 11 * k) else {
-            return FirstMalformed::At(k);
+            return First::At(k);
         };
         k += 1;
     }
-    FirstMalformed::Nowhere
+    First::Nowhere
 }
 
 // Writes the tags of the first `count` tag lines into the cells; the cells after them stay.

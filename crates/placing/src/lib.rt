@@ -1,5 +1,5 @@
 // The operation "placing a group": the least seed that some choice sequence fills, and the least such sequence.
-use ascending::NotAbove;
+use refusal::First;
 use refusal::Reason;
 use refusal::Refusal;
 use seeds::Found;
@@ -33,7 +33,7 @@ pub fn place_group(tags: &[u32], limit: u32) -> PlacingAnswer
     if (refusal::GROUP_MAX as usize) < tags.len() {
         return refuse(Reason::TooManyTags, 0);
     }
-    if let NotAbove::At(i) = ascending::first_not_above(tags) {
+    if let First::At(i) = ascending::first_not_above(tags) {
         return refuse(Reason::NotAscending, i);
     }
     let Found::At(seed) = seeds::least_seed(tags, limit) else {

@@ -5,6 +5,8 @@ pub mod Outcome
 pub mod OutcomeLaws
 pub mod First
 pub mod FirstLaws
+pub mod Search
 pub mod Checks
 pub mod ChecksLaws
 pub mod Reason
+pub mod Answer

@@ -46,6 +46,12 @@ pub struct Refusal {
     pub place: usize,
 }
 
+// The lowest index at which a condition is met: the first line, the first index of a list, the lowest group; or it is met nowhere.
+pub enum First {
+    At(usize),
+    Nowhere,
+}
+
 // The paper's number of a reason.
 pub fn reason_number(reason: Reason) -> u32
     ensures answer { λ r. ⌜ r ≡ reasonNumber reason ⌝ }

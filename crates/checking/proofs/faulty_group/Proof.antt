@@ -5,7 +5,7 @@ use Prim.Native.Nat.{_-_}
 use native.Mathlib.Omega.{arith}
 use Rattle.refusal.specs.First.{first}
 use Rattle.image.specs.View.{viewOf}
-use Rattle.slots.specs.Search.{Searched, searched-start, searched-turn, searched-found, searched-done}
+use Rattle.refusal.specs.Search.{Searched, searched-start, searched-turn, searched-found, searched-done}
 use Rattle.checking.specs.Steps.{faultyIn}
 use Rattle.checking.specs.StepsLaws.{fault-tested}
 use Rattle.checking.proofs.faulty_group.Statement.{statement}

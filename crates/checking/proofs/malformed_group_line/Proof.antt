@@ -10,7 +10,7 @@ use Rattle.text.specs.LineLaws.{line-reads}
 use Rattle.text.specs.Answer.{pairMeaning}
 use Rattle.image.specs.View.{viewOf}
 use Rattle.image.specs.Checking.{malformedIn}
-use Rattle.slots.specs.Search.{Searched, searched-start, searched-turn, searched-found, searched-done}
+use Rattle.refusal.specs.Search.{Searched, searched-start, searched-turn, searched-found, searched-done}
 use Rattle.checking.specs.StepsLaws.{lines-start, group-line-tested}
 use Rattle.checking.proofs.malformed_group_line.Statement.{statement}
 use Rattle.checking.proofs.malformed_group_line.Tie as tie

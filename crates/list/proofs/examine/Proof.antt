@@ -10,7 +10,8 @@ use Rattle.text.specs.Line.{listHeader}
 use Rattle.text.specs.LineLaws.{line-reads}
 use Rattle.text.specs.Answer.{pairMeaning}
 use Rattle.list.specs.Reading.{lineCount, tagCount}
-use Rattle.list.specs.Answer.{headOf, malformedMeaning}
+use Rattle.refusal.specs.Answer.{firstMeaning}
+use Rattle.list.specs.Answer.{headOf}
 use Rattle.list.specs.ReadingLaws.{header-well, header-malformed, read-short, read-uneven, read-header-malformed, read-malformed, read-many, read-narrow, read-answered, head-is}
 use Rattle.list.proofs.examine.Statement.{statement}
 use Rattle.list.proofs.examine.Tie as tie
@@ -75,7 +76,7 @@ returns-4 c =
     let long = read .before .before in
     let a = long .before .before .args in
     c .malformed4 .ensures
-    ∙ sym (by-refused headOf (read-malformed (a .text .now) (a .room) (long .if1 .left) (read .before .if2 .left) (sym (scanned .first-malformed .ensures) ∙ ap malformedMeaning (found .k .given .1))))
+    ∙ sym (by-refused headOf (read-malformed (a .text .now) (a .room) (long .if1 .left) (read .before .if2 .left) (sym (scanned .first-malformed .ensures) ∙ ap firstMeaning (found .k .given .1))))
 
 enum-told-2 : tie.Need-enum-told-2
 enum-told-2 c = search needs
@@ -92,7 +93,7 @@ returns-5 c =
     let read = told .before .before in
     let long = read .before .before in
     let a = long .before .before .args in
-    let well = sym (scanned .first-malformed .ensures) ∙ ap malformedMeaning (none-found .enum-told2 .given .1) in
+    let well = sym (scanned .first-malformed .ensures) ∙ ap firstMeaning (none-found .enum-told2 .given .1) in
     sym (by-refused headOf (read-many (a .text .now) (a .room) (long .if1 .left) (read .before .if2 .left) well (c .if3 .taken)))
 
 returns-6 : tie.Need-returns-6
@@ -104,7 +105,7 @@ returns-6 c =
     let read = told .before .before in
     let long = read .before .before in
     let a = long .before .before .args in
-    let well = sym (scanned .first-malformed .ensures) ∙ ap malformedMeaning (none-found .enum-told2 .given .1) in
+    let well = sym (scanned .first-malformed .ensures) ∙ ap firstMeaning (none-found .enum-told2 .given .1) in
     sym (by-refused headOf (read-narrow (a .text .now) (a .room) (long .if1 .left) (read .before .if2 .left) well (c .before .if3 .left) (c .if4 .taken)))
 
 returns-7 : tie.Need-returns-7
@@ -116,7 +117,7 @@ returns-7 c =
     let read = told .before .before in
     let long = read .before .before in
     let a = long .before .before .args in
-    let well = sym (scanned .first-malformed .ensures) ∙ ap malformedMeaning (none-found .enum-told2 .given .1) in
+    let well = sym (scanned .first-malformed .ensures) ∙ ap firstMeaning (none-found .enum-told2 .given .1) in
     let header = line-reads pairMeaning listHeader (a .text .now) 0 0 (read .read-list-header .ensures) (told .groups .given .1) refl in
     sym (by-answered headOf (read-answered (a .text .now) (a .room) (long .if1 .left) (read .before .if2 .left) well (c .before .if3 .left) (c .if4 .left)) ∙ ap answered (head-is (a .text .now) header))
 

@@ -8,7 +8,7 @@ use Rattle.refusal.specs.LimitsLaws.{inside}
 use Rattle.filling.specs.Word.{wordOf}
 use Rattle.group.specs.Group.{taken}
 use Rattle.group.specs.GroupLaws.{leastSeed-some}
-use Rattle.ascending.specs.Answer.{notAboveMeaning}
+use Rattle.refusal.specs.Answer.{firstMeaning}
 use Rattle.seeds.specs.Answer.{foundMeaning}
 use Rattle.sequence.specs.Answer.{choicesMeaning}
 use Rattle.sequence.specs.TakenLaws.{word-taken}
@@ -60,7 +60,7 @@ returns-3 c =
     let a = ranged .before .before .args in
     let legal = sym (ranged .outside .ensures) ∙ legal-limit .if1 .left in
     c .refuse3 .ensures
-    ∙ sym (placing-descends (a .tags .now) (a .limit) legal (compared .before .if2 .left) (sym (compared .first-not-above .ensures) ∙ ap notAboveMeaning (met .i .given .1)))
+    ∙ sym (placing-descends (a .tags .now) (a .limit) legal (compared .before .if2 .left) (sym (compared .first-not-above .ensures) ∙ ap firstMeaning (met .i .given .1)))
 
 enum-told : tie.Need-enum-told
 enum-told c = search needs
@@ -92,7 +92,7 @@ returns-4 c =
     let ranged = legal-limit .before in
     let a = ranged .before .before .args in
     let legal = sym (ranged .outside .ensures) ∙ legal-limit .if1 .left in
-    let up = sym (compared .first-not-above .ensures) ∙ ap notAboveMeaning (rising .enum-told .given .1) in
+    let up = sym (compared .first-not-above .ensures) ∙ ap firstMeaning (rising .enum-told .given .1) in
     c .refuse4 .ensures
     ∙ sym (placing-unseeded (a .tags .now) (a .limit) legal (compared .before .if2 .left) up (sym (searched .least-seed .ensures) ∙ ap foundMeaning (c .before .enum-told2 .given .1)))
 
@@ -106,7 +106,7 @@ choices-under-requires c κs =
     let ranged = legal-limit .before in
     let a = ranged .before .before .args in
     let legal = sym (ranged .outside .ensures) ∙ legal-limit .if1 .left in
-    let up = sym (compared .first-not-above .ensures) ∙ ap notAboveMeaning (rising .enum-told .given .1) in
+    let up = sym (compared .first-not-above .ensures) ∙ ap firstMeaning (rising .enum-told .given .1) in
     let least = leastSeed-some (a .tags .now) (a .limit) (sym (searched .least-seed .ensures) ∙ ap foundMeaning (found .seed .given .1)) in
     (compared .before .if2 .left, omega (arith, least .below, (inside 1 _ (a .limit) legal) .1))
 
@@ -130,7 +130,7 @@ returns-5 c =
     let ranged = legal-limit .before in
     let a = ranged .before .before .args in
     let legal = sym (ranged .outside .ensures) ∙ legal-limit .if1 .left in
-    let up = sym (compared .first-not-above .ensures) ∙ ap notAboveMeaning (rising .enum-told .given .1) in
+    let up = sym (compared .first-not-above .ensures) ∙ ap firstMeaning (rising .enum-told .given .1) in
     let seed-is = sym (searched .least-seed .ensures) ∙ ap foundMeaning (found .seed .given .1) in
     let least = leastSeed-some (a .tags .now) (a .limit) seed-is in
     let word-is = word-taken (a .tags .now) _ _ (chosen .choices-under .ensures) _ (least .fills) in
@@ -148,7 +148,7 @@ returns-6 c =
     let ranged = legal-limit .before in
     let a = ranged .before .before .args in
     let legal = sym (ranged .outside .ensures) ∙ legal-limit .if1 .left in
-    let up = sym (compared .first-not-above .ensures) ∙ ap notAboveMeaning (rising .enum-told .given .1) in
+    let up = sym (compared .first-not-above .ensures) ∙ ap firstMeaning (rising .enum-told .given .1) in
     let seed-is = sym (searched .least-seed .ensures) ∙ ap foundMeaning (found .seed .given .1) in
     let least = leastSeed-some (a .tags .now) (a .limit) seed-is in
     let word-is = word-taken (a .tags .now) _ _ (chosen .choices-under .ensures) _ (least .fills) in

@@ -4,7 +4,7 @@ use mathlib.Core.Path.{sym, _∙_}
 use Prim.Native.Nat.{_-_}
 use Rattle.image.specs.View.{viewOf}
 use Rattle.image.specs.Checking.{repeated}
-use Rattle.slots.specs.Search.{Searched, searched-start, searched-turn, searched-found, searched-done}
+use Rattle.refusal.specs.Search.{Searched, searched-start, searched-turn, searched-found, searched-done}
 use Rattle.slots.specs.SlotLaws.{group-ascends}
 use Rattle.slots.proofs.repeated_in.Statement.{statement}
 use Rattle.slots.proofs.repeated_in.Tie as tie
