@@ -7,12 +7,13 @@ use Prim.Native.Nat.{ℕ, zero, suc, _+_, _-_, _≤_, _<_}
 use native.Mathlib.Nat.{add-zero, add-suc}
 use native.Mathlib.Omega.{arith}
 use lib.Dec.{eqb, ltb}
-use lib.ListN.{length}
+use lib.ListN.{length, getD}
 use borrow.Author.Tests.{eqb-true, eqb-false, eq-eqb, ne-eqb, ltb-true, ltb-false, lt-ltb, le-ltb}
 use Rattle.hash.specs.Formula.{groupOf}
 use Rattle.hash.specs.FormulaLaws.{group-below}
 use Rattle.filling.specs.Places.{occurs, distinct}
 use Rattle.filling.specs.PlacesLaws.{occurs-here, occurs-there, occurs-cases, occurs-not, distinct-head, distinct-tail, distinct-cons}
+use Rattle.group.specs.AscendingLaws.{Ascending, ascending-above}
 use Rattle.building.specs.Members.{select, members, startOf}
 
 -- A tag that passes the test is selected,
@@ -90,6 +91,32 @@ select-length test (x ∷ xs) = go (test x) (select-length test xs)
     go true le = omega arith
     go false le = omega arith
 
+-- What is above a number stays above it, and tags in ascending order stay so.
+select-above : (test : ℕ → Bool) (m : ℕ) (xs : List ℕ) → ((i : ℕ) → i < length xs → m < getD xs i 0)
+    → (i : ℕ) → i < length (select test xs) → m < getD (select test xs) i 0
+unfolding select
+select-above test m [] all i lt = all i lt
+select-above test m (x ∷ xs) all i lt = go (test x) i lt (select-above test m xs (λ j l. all (suc j) (omega arith)))
+  where
+    go : (b : Bool) (i : ℕ) → i < length (cond b (x ∷ select test xs) (select test xs))
+        → ((j : ℕ) → j < length (select test xs) → m < getD (select test xs) j 0) → m < getD (cond b (x ∷ select test xs) (select test xs)) i 0
+    go true zero lt rest = all 0 (omega arith)
+    go true (suc i) lt rest = rest i (omega arith)
+    go false i lt rest = rest i lt
+
+pub select-ascending : (test : ℕ → Bool) (xs : List ℕ) → Ascending xs → Ascending (select test xs)
+unfolding select
+select-ascending test [] up = up
+select-ascending test (x ∷ xs) up = go (test x) (select-ascending test xs (λ i lt. up (suc i) (omega arith)))
+  where
+    over : (i : ℕ) → i < length (select test xs) → x < getD (select test xs) i 0
+    over = select-above test x xs (λ i lt. ascending-above (x ∷ xs) up 0 (suc i) (omega arith) (omega arith))
+
+    go : (b : Bool) → Ascending (select test xs) → Ascending (cond b (x ∷ select test xs) (select test xs))
+    go true rest zero lt = over 0 (omega arith)
+    go true rest (suc i) lt = rest i (omega arith)
+    go false rest i lt = rest i lt
+
 -- A listed tag is a member of its group, and a member is a listed tag of the group.
 pub members-own : (groups : ℕ) (tags : List ℕ) (t : ℕ) → occurs t tags ≡ true → occurs t (members groups (groupOf groups t) tags) ≡ true
 unfolding members
@@ -104,6 +131,10 @@ member-group groups g tags t m =
 pub members-distinct : (groups g : ℕ) (tags : List ℕ) → distinct tags ≡ true → distinct (members groups g tags) ≡ true
 unfolding members
 members-distinct groups g tags d = select-distinct (λ t. eqb (groupOf groups t) g) tags d
+
+pub members-ascending : (groups g : ℕ) (tags : List ℕ) → Ascending tags → Ascending (members groups g tags)
+unfolding members
+members-ascending groups g tags up = select-ascending (λ t. eqb (groupOf groups t) g) tags up
 
 -- Group 0 starts at 0, the groups follow one another, and after the last one N is reached.
 pub start-zero : (groups : ℕ) (tags : List ℕ) → startOf groups 0 tags ≡ 0

@@ -23,6 +23,12 @@ upTo-at zero f d k lt = absurd (omega arith)
 upTo-at (suc count) f d zero lt = refl
 upTo-at (suc count) f d (suc k) lt = upTo-at count (λ k. f (suc k)) d k (omega arith)
 
+-- One more comes last.
+pub upTo-more : {A : Type 0} (count : ℕ) (f : ℕ → A) → upTo (suc count) f ≡ upTo count f ++ (f count ∷ [])
+unfolding upTo
+upTo-more zero f = refl
+upTo-more {A} (suc count) f = ap (λ (l : List A). f 0 ∷ l) (upTo-more count (λ k. f (suc k)))
+
 -- Each line of an image is a line.
 upTo-lines : (count : ℕ) (f : ℕ → List ℕ) → ((k : ℕ) → length (f k) ≡ lineLength) → Lines (upTo count f)
 unfolding upTo Lines
