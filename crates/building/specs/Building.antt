@@ -36,6 +36,13 @@ choicesTaken groups tags limit g = taken (members groups g tags) (seedTaken grou
 unfoldable pub imageOf : ℕ → List ℕ → ℕ → List ℕ
 imageOf groups tags limit = bytesOf (sheetOf groups tags (seedTaken groups tags limit) (choicesTaken groups tags limit))
 
+-- "a group has more than 24 tags"; a "group without a seed".
+abbrev pub tooLarge : ℕ → List ℕ → ℕ → Bool
+tooLarge groups tags g = ltb groupMax (length (members groups g tags))
+
+abbrev pub seedless : ℕ → List ℕ → ℕ → ℕ → Bool
+seedless groups tags limit g = not (isSome (leastSeed (members groups g tags) limit))
+
 -- "8: B not 1 to 512. 4 as above. 5: more than 4,096 tags. 6 as above. 9: buffer shorter than the image. 10: a group has more than
 -- 24 tags, at the lowest such group. 7: at the lowest group without a seed." The buffer has `room` bytes.
 unfoldable pub buildingChecks : List ℕ → ℕ → ℕ → ℕ → List Check
@@ -45,8 +52,8 @@ buildingChecks tags groups limit room =
     ∷ (5, met (ltb tagsMax (length tags)))
     ∷ ascendingCheck tags
     ∷ (9, met (ltb room (imageLength groups (length tags))))
-    ∷ (10, first (λ g. ltb groupMax (length (members groups g tags))) groups)
-    ∷ (7, first (λ g. not (isSome (leastSeed (members groups g tags) limit))) groups)
+    ∷ (10, first (tooLarge groups tags) groups)
+    ∷ (7, first (seedless groups tags limit) groups)
     ∷ []
 
 -- "Otherwise the image stands at the buffer's beginning and the answer is its length."

@@ -4,6 +4,7 @@ pub mod Number
 pub mod NumberLaws
 pub mod Parts
 pub mod GroupSlots
+pub mod SlotsLaws
 pub mod Building
 pub mod BuildingLaws
 pub mod FromText

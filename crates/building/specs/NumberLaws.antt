@@ -163,7 +163,8 @@ place-inside tags seed choices t many = go (choiceOf tags choices t)
     go false = place-below (length tags) seed 0 t many
     go true = place-below (length tags) seed 1 t many
 
-some-listed : (xs : List ℕ) (x : ℕ) → occurs x xs ≡ true → 0 < length xs
+-- A list with a tag in it is not empty.
+pub some-listed : (xs : List ℕ) (x : ℕ) → occurs x xs ≡ true → 0 < length xs
 unfolding occurs
 some-listed [] x m = absurd (true≢false (sym m))
 some-listed (y ∷ ys) x m = omega arith

@@ -24,7 +24,7 @@ use Rattle.filling.specs.Least.{NotAfter}
 use Rattle.group.specs.Group.{groupUnder, leastSeed, taken}
 use Rattle.group.specs.GroupLaws.{LeastSeed, leastSeed-some, leastSeed-none}
 use Rattle.group.specs.Ascending.{limitCheck, ascendingCheck}
-use Rattle.group.specs.AscendingLaws.{ascending-of-check, check-of-ascending, ascending-distinct}
+use Rattle.group.specs.AscendingLaws.{ascending-of-check, check-of-ascending}
 use Rattle.image.specs.Sheet.{Sheet, bytesOf, imageLength}
 use Rattle.image.specs.SheetLaws.{group-at}
 use Rattle.image.specs.View.{viewOf}
@@ -35,52 +35,40 @@ use Rattle.building.specs.Members.{members, startOf}
 use Rattle.building.specs.MembersLaws.{start-all, start-before}
 use Rattle.building.specs.Number.{numberOf, tagNumbered}
 use Rattle.building.specs.NumberLaws.{ImageOf, number-below, number-apart, number-onto, AllFill, ownPlace, all-placed, tagNumbered-is}
-use Rattle.building.specs.Building.{sheetOf, seedTaken, choicesTaken, imageOf, buildingChecks, buildingOf, written, bufferAfter}
-use Rattle.building.specs.BuildingLaws.{image-length}
+use Rattle.building.specs.Building.{sheetOf, seedTaken, choicesTaken, imageOf, tooLarge, seedless, buildingChecks, buildingOf, written, bufferAfter}
+use Rattle.building.specs.BuildingLaws.{image-length, seed-least, taken-fill}
 use Rattle.condition3.specs.Built.{Reads, InRange, reads-back, built-sound, built-listed, built-unlisted}
 use Rattle.condition3.specs.Condition3.{GroupFills, NothingFills, HasSeed, LowestWithout, EarlierChecks, TagOf, Accepted, Condition3}
 
 module _ (tags : List ℕ) (groups limit : ℕ) where
-  -- Group g has no seed below the limit.
-  abbrev seedless : ℕ → Bool
-  seedless g = not (isSome (leastSeed (members groups g tags) limit))
-
-  -- A group with a seed: the seed and the sequence taken are as Condition 3 says.
-  seeded : (g : ℕ) → seedless g ≡ false → LeastSeed (members groups g tags) limit (seedTaken groups tags limit g)
-  unfolding seedTaken
-  seeded g e =
-      let own = members groups g tags in
-      let (s, found) = some-of-isSome (leastSeed own limit) (not-false (isSome (leastSeed own limit)) e) in
-      rw found (leastSeed-some own limit found)
-
-  unseeded : (g : ℕ) → seedless g ≡ true → (s : ℕ) → s < limit → NothingFills groups tags g s
+  unseeded : (g : ℕ) → seedless groups tags limit g ≡ true → (s : ℕ) → s < limit → NothingFills groups tags g s
   unseeded g e =
       let own = members groups g tags in
       leastSeed-none own limit (none-of-isSome (leastSeed own limit) (not-true (isSome (leastSeed own limit)) e))
 
   -- The lowest group without a seed, by the first index that passes the test.
-  lowest-of-first : (g : ℕ) → first seedless groups ≡ some g → LowestWithout groups tags limit g
+  lowest-of-first : (g : ℕ) → first (seedless groups tags limit) groups ≡ some g → LowestWithout groups tags limit g
   unfolding choicesTaken
   lowest-of-first g e =
-      let at = first-some seedless groups e in
+      let at = first-some (seedless groups tags limit) groups e in
       record {
         group = at .below;
         without = unseeded g (at .holds);
         lower = λ h lt.
-            let has = seeded h (at .lowest h lt) in
+            let has = seed-least groups tags limit h (at .lowest h lt) in
             record { seed = seedTaken groups tags limit h; below = has .below; choices = choicesTaken groups tags limit h; fills = has .fills };
       }
 
-  first-of-lowest : (g : ℕ) → LowestWithout groups tags limit g → first seedless groups ≡ some g
-  first-of-lowest g low = first-found seedless groups g (low .group) (here (seedless g) refl) (λ h lt. there h (low .lower h lt) (seedless h) refl)
+  first-of-lowest : (g : ℕ) → LowestWithout groups tags limit g → first (seedless groups tags limit) groups ≡ some g
+  first-of-lowest g low = first-found (seedless groups tags limit) groups g (low .group) (here (seedless groups tags limit g) refl) (λ h lt. there h (low .lower h lt) (seedless groups tags limit h) refl)
     where
-      here : (b : Bool) → seedless g ≡ b → seedless g ≡ true
+      here : (b : Bool) → seedless groups tags limit g ≡ b → seedless groups tags limit g ≡ true
       here true e = e
       here false e =
-          let has = seeded g e in
+          let has = seed-least groups tags limit g e in
           absurd (low .without (seedTaken groups tags limit g) (has .below) (taken (members groups g tags) (seedTaken groups tags limit g)) (has .fills))
 
-      there : (h : ℕ) → HasSeed groups tags limit h → (b : Bool) → seedless h ≡ b → seedless h ≡ false
+      there : (h : ℕ) → HasSeed groups tags limit h → (b : Bool) → seedless groups tags limit h ≡ b → seedless groups tags limit h ≡ false
       there h has true e = absurd (unseeded h e (has .seed) (has .below) (has .choices) (has .fills))
       there h has false e = e
 
@@ -93,7 +81,7 @@ module _ (tags : List ℕ) (groups limit : ℕ) where
         ∷ (5, met (ltb tagsMax (length tags)))
         ∷ ascendingCheck tags
         ∷ (9, met (ltb room (imageLength groups (length tags))))
-        ∷ (10, first (λ g. ltb groupMax (length (members groups g tags))) groups)
+        ∷ (10, first (tooLarge groups tags) groups)
         ∷ []
 
     pass-of-earlier : EarlierChecks tags groups limit room → Pass six
@@ -109,7 +97,7 @@ module _ (tags : List ℕ) (groups limit : ℕ) where
             (
               met-false (le-ltb room (lineLength * (1 + groups + length tags)) (h .fits)),
               (
-                first-out (λ g. ltb groupMax (length (members groups g tags))) groups (λ g lt. le-ltb groupMax (length (members groups g tags)) (h .groups-small g lt)),
+                first-out (tooLarge groups tags) groups (λ g lt. le-ltb groupMax (length (members groups g tags)) (h .groups-small g lt)),
                 tt,
               ),
             ),
@@ -126,14 +114,14 @@ module _ (tags : List ℕ) (groups limit : ℕ) where
       count-legal = ltb-false tagsMax (length tags) (false-of-met (ltb tagsMax (length tags)) five);
       ascending = ascending-of-check tags order;
       fits = ltb-false room (lineLength * (1 + groups + length tags)) (false-of-met (ltb room (lineLength * (1 + groups + length tags))) nine);
-      groups-small = λ g lt. ltb-false groupMax (length (members groups g tags)) (first-none (λ g. ltb groupMax (length (members groups g tags))) groups ten g lt);
+      groups-small = λ g lt. ltb-false groupMax (length (members groups g tags)) (first-none (tooLarge groups tags) groups ten g lt);
     }
 
     -- Where they pass, 7 decides.
     seven-decides : EarlierChecks tags groups limit room
-        → buildingOf tags groups limit room ≡ inOrder ((7, first seedless groups) ∷ []) (answered (imageLength groups (length tags)))
+        → buildingOf tags groups limit room ≡ inOrder ((7, first (seedless groups tags limit) groups) ∷ []) (answered (imageLength groups (length tags)))
     unfolding buildingOf buildingChecks
-    seven-decides h = inOrder-append six ((7, first seedless groups) ∷ []) _ ∙ inOrder-pass six _ (pass-of-earlier h)
+    seven-decides h = inOrder-append six ((7, first (seedless groups tags limit) groups) ∷ []) _ ∙ inOrder-pass six _ (pass-of-earlier h)
 
     refused-of-lowest : EarlierChecks tags groups limit room → (g : ℕ) → LowestWithout groups tags limit g → buildingOf tags groups limit room ≡ refused 7 g
     unfolding inOrder
@@ -142,19 +130,19 @@ module _ (tags : List ℕ) (groups limit : ℕ) where
     answered-of-none : EarlierChecks tags groups limit room → ((g : ℕ) → LowestWithout groups tags limit g → ⊥)
         → buildingOf tags groups limit room ≡ answered (11 * (1 + groups + length tags))
     unfolding inOrder imageLength
-    answered-of-none h never = seven-decides h ∙ go (first seedless groups) refl
+    answered-of-none h never = seven-decides h ∙ go (first (seedless groups tags limit) groups) refl
       where
-        go : (o : Option ℕ) → first seedless groups ≡ o
+        go : (o : Option ℕ) → first (seedless groups tags limit) groups ≡ o
             → inOrder ((7, o) ∷ []) (answered (imageLength groups (length tags))) ≡ answered (11 * (1 + groups + length tags))
         go none e = refl
         go (some g) e = absurd (never g (lowest-of-first g e))
 
     -- A refusal 7 comes from the last check.
-    first-of-seven : (g : ℕ) → buildingOf tags groups limit room ≡ refused 7 g → first seedless groups ≡ some g
+    first-of-seven : (g : ℕ) → buildingOf tags groups limit room ≡ refused 7 g → first (seedless groups tags limit) groups ≡ some g
     unfolding buildingOf buildingChecks limitCheck ascendingCheck
     first-of-seven g e = go (inOrder-refused (buildingChecks tags groups limit room) (imageLength groups (length tags)) e)
       where
-        go : Met (buildingChecks tags groups limit room) 7 g → first seedless groups ≡ some g
+        go : Met (buildingChecks tags groups limit room) 7 g → first (seedless groups tags limit) groups ≡ some g
         go (inl m) = absurd (omega (arith, m .0))
         go (inr (_, inl m)) = absurd (omega (arith, m .0))
         go (inr (_, inr (_, inl m))) = absurd (omega (arith, m .0))
@@ -165,20 +153,15 @@ module _ (tags : List ℕ) (groups limit : ℕ) where
         go (inr (_, inr (_, inr (_, inr (_, inr (_, inr (_, inr (_, m)))))))) = absurd m
 
     -- An accepted building, from the earlier checks and a seed for every group.
-    module _ (words : (t : ℕ) → occurs t tags ≡ true → t < tagEnd) (h : EarlierChecks tags groups limit room) (every : first seedless groups ≡ none) where
+    module _ (words : (t : ℕ) → occurs t tags ≡ true → t < tagEnd) (h : EarlierChecks tags groups limit room) (every : first (seedless groups tags limit) groups ≡ none) where
       takes : (g : ℕ) → g < groups → LeastSeed (members groups g tags) limit (seedTaken groups tags limit g)
-      takes g lt = seeded g (first-none seedless groups every g lt)
+      takes g lt = seed-least groups tags limit g (first-none (seedless groups tags limit) groups every g lt)
 
       abbrev sheet : Sheet
       sheet = sheetOf groups tags (seedTaken groups tags limit) (choicesTaken groups tags limit)
 
       all-fill : AllFill groups tags (seedTaken groups tags limit) (choicesTaken groups tags limit)
-      unfolding choicesTaken
-      all-fill = record {
-        some-group = h .groups-legal .0;
-        differ = ascending-distinct tags (h .ascending);
-        fills = λ g lt. (takes g lt) .fills;
-      }
+      all-fill = taken-fill groups tags limit (h .groups-legal .0) (check-of-ascending tags (h .ascending)) every
 
       in-range : InRange (sheetOf groups tags (seedTaken groups tags limit) (choicesTaken groups tags limit))
       unfolding sheetOf numberOf
