@@ -1,7 +1,7 @@
 -- The slots of all groups, one group's after the other's, are the tags in the order of their numbers. Assumes nothing.
 use mathlib.Core.Path.{_≡_, refl, sym, _∙_, ap}
 use mathlib.Core.Bool.{Bool, true}
-use mathlib.Core.List.{List, [], _∷_, _++_, flatten, append-nil, append-assoc}
+use mathlib.Core.List.{List, [], _∷_, _++_, flatten}
 use Prim.Native.Nat.{ℕ, zero, suc, _+_, _<_}
 use native.Mathlib.Omega.{arith}
 use lib.ListN.{length, getD, length-append, List·getD-append}
@@ -10,22 +10,14 @@ use Rattle.hash.specs.Formula.{groupOf}
 use Rattle.hash.specs.FormulaLaws.{group-below}
 use Rattle.filling.specs.Places.{occurs}
 use Rattle.image.specs.Sheet.{upTo}
-use Rattle.image.specs.SheetLaws.{upTo-length, upTo-at, upTo-more}
+use Rattle.image.specs.SheetLaws.{upTo-length, upTo-at, flatten-more}
 use Rattle.building.specs.Members.{members, startOf}
 use Rattle.building.specs.MembersLaws.{members-own, members-distinct, start-zero, start-suc}
 use Rattle.building.specs.Number.{placeIn, numberOf, tagNumbered}
 use Rattle.building.specs.NumberLaws.{some-listed, AllFill, all-placed, number-onto, place-apart, place-inside, tagNumbered-is}
 use Rattle.building.specs.GroupSlots.{groupSlots}
 
--- Lists one after the other: one more comes last,
-pub flatten-more : (count : ℕ) (f : ℕ → List ℕ) → flatten (upTo (suc count) f) ≡ flatten (upTo count f) ++ f count
-unfolding upTo flatten
-flatten-more zero f = append-nil (f 0)
-flatten-more (suc count) f =
-    let rest = flatten (upTo count (λ k. f (suc k))) in
-    ap (λ (l : List ℕ). f 0 ++ l) (flatten-more count (λ k. f (suc k))) ∙ sym (append-assoc (f 0) rest (f (suc count)))
-
--- and what stands in one of them is found behind the lists before it.
+-- Of lists one after the other, what stands in one is found behind those before it.
 pub flatten-at : (count : ℕ) (f : ℕ → List ℕ) (k p : ℕ) → k < count → p < length (f k)
     → getD (flatten (upTo count f)) (length (flatten (upTo k f)) + p) 0 ≡ getD (f k) p 0
 unfolding upTo flatten

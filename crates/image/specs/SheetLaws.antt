@@ -1,6 +1,6 @@
 -- An image's length, and that line k of it is the line that was put there. Assumes nothing.
 use mathlib.Core.Path.{_≡_, refl, _∙_, ap}
-use mathlib.Core.List.{List, [], _∷_, _++_}
+use mathlib.Core.List.{List, [], _∷_, _++_, flatten, append-nil}
 use mathlib.Core.Option.{some}
 use Prim.Native.Nat.{ℕ, zero, suc, _+_, _*_, _^_, _≤_, _<_}
 use native.Mathlib.Omega.{arith}
@@ -8,7 +8,7 @@ use lib.ListN.{length, getD, length-append, List·getD-append}
 use lib.Seq.{getD-append-add}
 use Rattle.refusal.specs.Limits.{tagEnd, tagsMax, groupsMax, seedMax}
 use Rattle.text.specs.Line.{lineLength, lineAt, imageHeader, groupLine, slotLine}
-use Rattle.text.specs.LineLaws.{pairLine-length, tagLine-length, Lines, lines-append, flatten-length, line-flatten, image-header-line, group-line, slot-line}
+use Rattle.text.specs.LineLaws.{pairLine-length, tagLine-length, Lines, lines-append, flatten-length, flatten-append, line-flatten, image-header-line, group-line, slot-line}
 use Rattle.image.specs.Sheet.{upTo, Sheet, headerLineOf, groupLineOf, slotLineOf, linesOf, bytesOf, imageLength}
 
 -- `upTo` has as many as are asked for, and f k at index k.
@@ -23,14 +23,25 @@ upTo-at zero f d k lt = absurd (omega arith)
 upTo-at (suc count) f d zero lt = refl
 upTo-at (suc count) f d (suc k) lt = upTo-at count (λ k. f (suc k)) d k (omega arith)
 
--- One more comes last.
+-- One more stands at the end, also where lists are put one after the other.
 pub upTo-more : {A : Type 0} (count : ℕ) (f : ℕ → A) → upTo (suc count) f ≡ upTo count f ++ (f count ∷ [])
 unfolding upTo
 upTo-more zero f = refl
-upTo-more {A} (suc count) f = ap (λ (l : List A). f 0 ∷ l) (upTo-more count (λ k. f (suc k)))
+upTo-more (suc count) f = ap (λ xs. f 0 ∷ xs) (upTo-more count (λ k. f (suc k)))
+
+pub flatten-more : (count : ℕ) (f : ℕ → List ℕ) → flatten (upTo (suc count) f) ≡ flatten (upTo count f) ++ f count
+unfolding flatten
+flatten-more count f = rw (upTo-more count f, flatten-append (upTo count f) (f count ∷ []), append-nil (f count))
+
+-- Functions that agree below the count give one list.
+pub upTo-agree : {A : Type 0} (count : ℕ) (f h : ℕ → A) → ((k : ℕ) → k < count → f k ≡ h k) → upTo count f ≡ upTo count h
+unfolding upTo
+upTo-agree zero f h agree = refl
+upTo-agree (suc count) f h agree =
+    rw (agree 0 (omega arith), upTo-agree count (λ k. f (suc k)) (λ k. h (suc k)) (λ k lt. agree (suc k) (omega arith)))
 
 -- Each line of an image is a line.
-upTo-lines : (count : ℕ) (f : ℕ → List ℕ) → ((k : ℕ) → length (f k) ≡ lineLength) → Lines (upTo count f)
+pub upTo-lines : (count : ℕ) (f : ℕ → List ℕ) → ((k : ℕ) → length (f k) ≡ lineLength) → Lines (upTo count f)
 unfolding upTo Lines
 upTo-lines zero f h = tt
 upTo-lines (suc count) f h = (h 0, upTo-lines count (λ k. f (suc k)) (λ k. h (suc k)))

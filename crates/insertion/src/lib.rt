@@ -1,6 +1,6 @@
 // Weighted insertion: a key goes in with either choice, occupants are evicted to their other places, and the lighter word stays.
 mod weight;
-mod word;
+pub mod word;
 
 use crate::weight::lighter;
 use crate::word::choice_at;

@@ -6,7 +6,7 @@ use mathlib.Core.Option.{Option, none, some, Option·getD}
 use Prim.Native.Nat.{ℕ, suc, _+_, _≤_, _<_}
 use native.Mathlib.Numerals.{add-one}
 use native.Mathlib.Omega.{arith}
-use lib.ListN.{length, getD, set, drop}
+use lib.ListN.{length, getD, set, drop, length-append, length-drop}
 use lib.Seq.{drop-cons, set-at, append-snoc}
 use Rattle.refusal.specs.Limits.{groupMax, limitMax, outside}
 use Rattle.refusal.specs.LimitsLaws.{outside-not}
@@ -44,6 +44,14 @@ module _ (part : List ℕ) (limit : ℕ) (legal : (1 ≤ limit) × (limit ≤ li
       go none f = refl
       go (some s) f =
           absurd (let r = placing-seeded part limit legal-limit few (check-of-ascending part up) f in let z : _≡_ {A = ℕ} 0 1 = cc in omega arith)
+
+-- The cells stay as many as they were.
+pub planned-length : (ordered ends : List ℕ) (limit planned : ℕ) (before : List ℕ) → planned ≤ length before
+    → length (seedsPlanned ordered ends limit planned before) ≡ length before
+unfolding seedsPlanned
+planned-length ordered ends limit planned before known =
+    let seed = partSeed ordered ends limit in
+    omega (arith, length-append (upTo planned seed) (drop planned before), upTo-length planned seed, length-drop planned before)
 
 -- One seed more.
 pub planned-more : (ordered ends : List ℕ) (limit g seed : ℕ) (before seeds : List ℕ) → g < length before

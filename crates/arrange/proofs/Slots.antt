@@ -1,0 +1,96 @@
+-- What the loop that arranges group after group keeps. Assumes nothing.
+use Prim.Native.Nat.{ℕ, _+_, _-_, _≤_, _<_}
+use mathlib.Core.Path.{_≡_, refl, sym, _∙_, ap}
+use mathlib.Core.List.{List, _++_, append-assoc}
+use native.Mathlib.Omega.{arith}
+use native.Mathlib.Numerals.{add-one}
+use lib.ListN.{length, getD, take, drop, length-take, length-drop}
+use lib.Seq.{take-at, drop-at}
+use borrow.Rule.Slice.PartMut.{putMid, post-is}
+use Rattle.group.specs.Group.{taken}
+use Rattle.building.specs.Parts.{partStart, partOf}
+use Rattle.building.specs.GroupSlots.{groupSlots}
+use Rattle.arrange.specs.Arrange.{Arrangeable, AllArrangeable, slotsOfPart, allSlots}
+use Rattle.arrange.specs.PartsLaws.{part-length}
+use Rattle.arrange.specs.SlotsLaws.{slots-none, slots-more, slots-length, slots-kept}
+
+-- The cells begin with the slots of the first g groups, and the others are as they were.
+pub record Filled (ordered ends seeds : List ℕ) (groups : ℕ) (before slots : List ℕ) (start g : ℕ) : Type 0 where
+  pub upto : g ≤ groups
+  pub start-is : start ≡ partStart ends g
+  pub cells-are : slots ≡ allSlots ordered ends seeds g ++ drop (partStart ends g) before
+
+module _ {groups : ℕ} {ordered ends seeds before : List ℕ} (a : AllArrangeable groups ordered ends seeds (length before)) where
+  -- Before the first group the cells are as they were.
+  pub filled-start : Filled ordered ends seeds groups before before 0 0
+  unfolding partStart
+  filled-start = record { upto = omega arith; start-is = refl; cells-are = rw (slots-none ordered ends seeds) }
+
+  module _ {slots : List ℕ} {start g : ℕ} (f : Filled ordered ends seeds groups before slots start g) where
+    -- The cells keep their number.
+    pub filled-length : length slots ≡ length before
+    filled-length = ap length (f .cells-are) ∙ slots-kept (a .parts) seeds g (f .upto) before (a .room-enough)
+
+    module _ (lt : g < groups) where
+      -- The group's part, as the code takes it.
+      part-is : take (getD ends g 0 - start) (drop start ordered) ≡ partOf ordered ends g
+      unfolding partOf
+      part-is = rw (f .start-is)
+
+      -- It begins before its end, and ends within the tags and within the cells.
+      pub part-follows : start ≤ getD ends g 0
+      part-follows = omega (arith, f .start-is, a .parts .follow g lt)
+
+      pub part-in-tags : getD ends g 0 ≤ length ordered
+      part-in-tags = a .parts .inside g lt
+
+      pub part-in-cells : getD ends g 0 ≤ length slots
+      part-in-cells = omega (arith, filled-length, part-in-tags, a .room-enough)
+
+      -- It can be arranged into the cells that the code lends.
+      pub part-arrangeable : Arrangeable (take (getD ends g 0 - start) (drop start ordered)) (getD seeds g 0)
+          (length (take (getD ends g 0 - start) (drop start slots)))
+      part-arrangeable =
+          let e = a .each g lt in
+          rw part-is
+          record {
+            few = e .few;
+            seed-legal = e .seed-legal;
+            differ = e .differ;
+            filled = e .filled;
+            room-is = cells-for;
+          }
+        where
+          cells-for : length (take (getD ends g 0 - start) (drop start slots)) ≡ length (partOf ordered ends g)
+          cells-for =
+              rw (length-take, length-drop) (omega (arith, part-length (a .parts) g lt, part-in-cells, part-follows, f .start-is))
+
+      -- A turn writes the slots of one group more.
+      pub filled-turn : {piece : List ℕ}
+          → (let part = take (getD ends g 0 - start) (drop start ordered) in
+          piece ≡ groupSlots part (getD seeds g 0) (taken part (getD seeds g 0)))
+          → Filled ordered ends seeds groups before (putMid start (getD ends g 0 - start) slots piece) (getD ends g 0) (g + 1)
+      unfolding partStart slotsOfPart
+      filled-turn {piece} e = record {
+        upto = omega arith;
+        start-is = rw (add-one g);
+        cells-are = rw (front, back, add-one g, slots-more ordered ends seeds g, append-assoc, piece-is);
+      }
+        where
+          many : length (allSlots ordered ends seeds g) ≡ start
+          many = slots-length (a .parts) seeds g (f .upto) ∙ sym (f .start-is)
+
+          front : take start slots ≡ allSlots ordered ends seeds g
+          front = rw (f .cells-are) (take-at (allSlots ordered ends seeds g) (drop (partStart ends g) before) start many)
+
+          back : drop (getD ends g 0 - start) (drop start slots) ≡ drop (getD ends g 0) before
+          back =
+              rw (f .cells-are, drop-at (allSlots ordered ends seeds g) (drop (partStart ends g) before) start many, ← f .start-is)
+              (post-is start (getD ends g 0) before part-follows)
+
+          piece-is : piece ≡ groupSlots (partOf ordered ends g) (getD seeds g 0) (taken (partOf ordered ends g) (getD seeds g 0))
+          piece-is = rw part-is at e
+
+    -- After the last group all slots are written.
+    pub filled-done : groups ≤ g → slots ≡ allSlots ordered ends seeds groups ++ drop (partStart ends groups) before
+    filled-done past = let same : g ≡ groups = omega (arith, f .upto) in rw same at (f .cells-are)

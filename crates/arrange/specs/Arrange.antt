@@ -1,0 +1,38 @@
+-- When a group's tags can be put in the order of their places, and the slots of all groups. Assumes nothing.
+use Prim.Native.Nat.{ℕ, _≤_, _<_}
+use mathlib.Core.Path.{_≡_}
+use mathlib.Core.Bool.{true}
+use mathlib.Core.List.{List, flatten}
+use lib.ListN.{length, getD}
+use Rattle.refusal.specs.Limits.{groupMax, seedMax}
+use Rattle.filling.specs.Places.{distinct}
+use Rattle.filling.specs.Least.{feasible}
+use Rattle.group.specs.Group.{groupUnder, taken}
+use Rattle.image.specs.Sheet.{upTo}
+use Rattle.building.specs.Parts.{partOf, Parts}
+use Rattle.building.specs.GroupSlots.{groupSlots}
+
+-- A group that some sequence fills under the seed, and as many cells as it has tags. The empty group is one.
+pub record Arrangeable (part : List ℕ) (seed room : ℕ) : Type 0 where
+  pub few : length part ≤ groupMax
+  pub seed-legal : seed ≤ seedMax
+  pub differ : distinct part ≡ true
+  pub filled : feasible (groupUnder part seed) ≡ true
+  pub room-is : room ≡ length part
+
+-- The slots of group g, under its seed and the sequence taken.
+unfoldable pub slotsOfPart : List ℕ → List ℕ → List ℕ → ℕ → List ℕ
+slotsOfPart ordered ends seeds g =
+    let part = partOf ordered ends g in
+    groupSlots part (getD seeds g 0) (taken part (getD seeds g 0))
+
+-- The slots of the first groups, one group's after the other's.
+unfoldable pub allSlots : List ℕ → List ℕ → List ℕ → ℕ → List ℕ
+allSlots ordered ends seeds groups = flatten (upTo groups (slotsOfPart ordered ends seeds))
+
+-- Parts that can each be arranged under its own seed, and cells for all of them.
+pub record AllArrangeable (groups : ℕ) (ordered ends seeds : List ℕ) (room : ℕ) : Type 0 where
+  pub parts : Parts groups ordered ends
+  pub seeds-known : groups ≤ length seeds
+  pub each : (g : ℕ) → g < groups → Arrangeable (partOf ordered ends g) (getD seeds g 0) (length (partOf ordered ends g))
+  pub room-enough : length ordered ≤ room

@@ -1,0 +1,4 @@
+pub mod Arrange
+pub mod PlaceLaws
+pub mod PartsLaws
+pub mod SlotsLaws

@@ -1,0 +1,163 @@
+-- The place of the tag with an index, and that the cells of the places, each with its tag, are the group's slots. Assumes nothing.
+use Prim.Native.Nat.{ℕ, zero, suc, _<_}
+use mathlib.Core.Path.{_≡_, refl, sym, _∙_}
+use mathlib.Core.Bool.{Bool, true, false, cond}
+use mathlib.Core.List.{List, [], _∷_}
+use native.Mathlib.Omega.{arith}
+use lib.ListN.{length, getD}
+use lib.Seq.{ext-getD}
+use borrow.Author.Tests.{eq-eqb, ne-eqb}
+use Rattle.hash.specs.Formula.{hashed, multiplier, placeOf}
+use Rattle.hash.specs.FormulaLaws.{place-below}
+use Rattle.filling.specs.Places.{occurs, distinct}
+use Rattle.filling.specs.PlacesLaws.{occurs-not, distinct-head, distinct-tail, getD-occurs, occurs-getD, distinct-getD, onto}
+use Rattle.filling.specs.Filling.{placeBy, chosen, Fills}
+use Rattle.filling.specs.FillingLaws.{chosen-length, chosen-at, chosen-candidate}
+use Rattle.filling.specs.Word.{choiceNumber, wordOf}
+use Rattle.filling.specs.WordLaws.{word-bit}
+use Rattle.filling.specs.LeastLaws.{feasible-fills}
+use Rattle.group.specs.Group.{bothPlaces, groupUnder, taken}
+use Rattle.group.specs.GroupLaws.{candidates-length, candidate-place, each-candidate, fills-length, taken-fills}
+use Rattle.insertion.specs.WordBits.{choiceIn}
+use Rattle.insertion.specs.WordBitsLaws.{choice-shifted}
+use Rattle.image.specs.Sheet.{upTo}
+use Rattle.image.specs.SheetLaws.{upTo-length, upTo-at}
+use Rattle.building.specs.Number.{choiceOf, placeIn, tagNumbered}
+use Rattle.building.specs.NumberLaws.{ImageOf, place-apart, place-inside, tagNumbered-is}
+use Rattle.building.specs.GroupSlots.{groupSlots}
+use Rattle.arrange.specs.Arrange.{Arrangeable}
+
+-- The choice of the tag with index i is the choice with index i.
+pub choiceOf-at : (tags : List ℕ) (choices : List Bool) (i : ℕ) → distinct tags ≡ true → length choices ≡ length tags → i < length tags
+    → choiceOf tags choices (getD tags i 0) ≡ getD choices i false
+unfolding choiceOf
+choiceOf-at [] choices i d l lt = absurd (omega arith)
+choiceOf-at (u ∷ us) [] i d l lt = absurd (omega arith)
+choiceOf-at (u ∷ us) (c ∷ cs) zero d l lt = rw (eq-eqb u u refl)
+choiceOf-at (u ∷ us) (c ∷ cs) (suc i) d l lt =
+    let below : i < length us = omega arith in
+    let other : getD us i 0 ≡ u → ⊥ = λ e. occurs-not u us (rw e at (getD-occurs us i below)) (distinct-head u us d) in
+    rw (ne-eqb (getD us i 0) u other) (choiceOf-at us cs i (distinct-tail u us d) (omega arith) below)
+
+-- Choices with one number are one choice.
+choice-same : (b c : Bool) → choiceNumber b ≡ choiceNumber c → b ≡ c
+unfolding choiceNumber
+choice-same false false e = refl
+choice-same false true e = absurd (omega arith)
+choice-same true false e = absurd (omega arith)
+choice-same true true e = refl
+
+-- The choice that a sequence's word has for the key with index i is the choice with index i.
+pub word-choice : (cs : List Bool) (i : ℕ) → i < length cs → choiceIn (wordOf cs) i ≡ getD cs i false
+word-choice cs i lt =
+    choice-same (choiceIn (wordOf cs) i) (getD cs i false) (sym (choice-shifted (wordOf cs) i) ∙ word-bit cs i lt)
+
+-- Hashing by the multiplier of a choice gives the place that the choice takes.
+hashed-choice : (n seed t : ℕ) (choice : Bool)
+    → hashed (cond choice (multiplier seed 1) (multiplier seed 0)) n t ≡ placeBy choice (bothPlaces n seed t)
+unfolding placeBy bothPlaces placeOf
+hashed-choice n seed t false = refl
+hashed-choice n seed t true = refl
+
+-- The place that a choice takes, by the choice's number.
+place-by-number : (n seed t : ℕ) (choice : Bool) → placeBy choice (bothPlaces n seed t) ≡ placeOf n seed (choiceNumber choice) t
+unfolding placeBy bothPlaces choiceNumber
+place-by-number n seed t false = refl
+place-by-number n seed t true = refl
+
+-- A group has a slot for each tag.
+pub groupSlots-length : (part : List ℕ) (seed : ℕ) → length (groupSlots part seed (taken part seed)) ≡ length part
+unfolding groupSlots
+groupSlots-length part seed = upTo-length (length part) (tagNumbered (placeIn part seed (taken part seed)) part)
+
+-- The place of a tag of the group is below the size of the group.
+pub place-has-room : (part : List ℕ) (seed t : ℕ) → occurs t part ≡ true → placeIn part seed (taken part seed) t < length part
+place-has-room part seed t m =
+    let at = occurs-getD part t m in
+    place-inside part seed (taken part seed) t (omega (arith, at .inside))
+
+-- The place of the tag with index i, under the sequence taken.
+abbrev pub placeWith : List ℕ → ℕ → ℕ → ℕ
+placeWith part seed i = placeIn part seed (taken part seed) (getD part i 0)
+
+module _ {part : List ℕ} {seed room : ℕ} (a : Arrangeable part seed room) where
+  -- The sequence taken fills the group.
+  pub arranged-fills : Fills (groupUnder part seed) (taken part seed)
+  arranged-fills = let (cs, f) = feasible-fills (groupUnder part seed) (a .filled) in taken-fills part seed cs f
+
+  -- It has a choice for each tag.
+  choices-whole : length (taken part seed) ≡ length part
+  choices-whole = fills-length (length part) seed part arranged-fills
+
+  -- The place of the tag with index i is what the code computes, from the word of the sequence taken.
+  pub place-computed : (i : ℕ) → i < length part
+      → hashed (cond (choiceIn (wordOf (taken part seed)) i) (multiplier seed 1) (multiplier seed 0)) (length part) (getD part i 0)
+      ≡ placeWith part seed i
+  unfolding placeIn
+  place-computed i lt =
+      rw (
+        word-choice (taken part seed) i (omega (arith, choices-whole)),
+        choiceOf-at part (taken part seed) i (a .differ) choices-whole lt,
+      )
+      (hashed-choice (length part) seed (getD part i 0) (getD (taken part seed) i false))
+
+  -- It is below the size of the group,
+  pub place-fits : (i : ℕ) → i < length part → placeWith part seed i < length part
+  place-fits i lt = place-inside part seed (taken part seed) (getD part i 0) (omega arith)
+
+  -- and no two tags have one place.
+  pub places-apart : (i j : ℕ) → i < length part → j < length part → placeWith part seed i ≡ placeWith part seed j → i ≡ j
+  places-apart i j li lj e =
+      let apart = place-apart part seed (taken part seed) (a .differ) arranged-fills in
+      distinct-getD part (a .differ) i j li lj
+      (apart (getD part i 0) (getD part j 0) (getD-occurs part i li) (getD-occurs part j lj) e)
+
+  -- The place of the tag with index i is the place chosen for it.
+  chosen-place : (i : ℕ) → i < length part → getD (chosen (groupUnder part seed) (taken part seed)) i 0 ≡ placeWith part seed i
+  unfolding placeIn
+  chosen-place i lt =
+      let cs = taken part seed in
+      chosen-at (groupUnder part seed) cs i (arranged-fills .whole) (omega (arith, candidates-length (length part) seed part))
+      ∙ candidate-place (length part) seed part i (getD cs i false) lt
+      ∙ rw (choiceOf-at part cs i (a .differ) choices-whole lt)
+      (sym (place-by-number (length part) seed (getD part i 0) (getD cs i false)))
+
+  -- Each place is some tag's.
+  place-reached : (j : ℕ) → j < length part → ImageOf (placeIn part seed (taken part seed)) part j
+  place-reached j lt =
+      let n = length part in
+      let keys = groupUnder part seed in
+      let cs = taken part seed in
+      let whole = arranged-fills .whole in
+      let many = chosen-length keys cs whole ∙ candidates-length n seed part in
+      let low = each-candidate (λ x. x < n) n seed part (λ i c li. place-below n seed c (getD part i 0) (omega arith)) in
+      let below = chosen-candidate (λ x. x < n) keys cs whole low in
+      let at = occurs-getD (chosen keys cs) j (onto n (chosen keys cs) many (arranged-fills .apart) below j lt) in
+      let inside : at .index < n = omega (arith, many, at .inside) in
+      record {
+        from = getD part (at .index) 0;
+        listed = getD-occurs part (at .index) inside;
+        value = sym (chosen-place (at .index) inside) ∙ at .value;
+      }
+
+  -- Cells that have each tag at its place, and no more cells, are the group's slots.
+  pub slots-of-places : (cells : List ℕ) → length cells ≡ length part
+      → ((i : ℕ) → i < length part → getD cells (placeWith part seed i) 0 ≡ getD part i 0) → cells ≡ groupSlots part seed (taken part seed)
+  unfolding groupSlots
+  slots-of-places cells l each =
+      let place = placeIn part seed (taken part seed) in
+      ext-getD 0 cells (upTo (length part) (tagNumbered place part)) (l ∙ sym (upTo-length (length part) (tagNumbered place part))) (λ j lt.
+      let below : j < length part = omega arith in
+      let has = tagNumbered-is place part j (place-reached j below) in
+      let at = occurs-getD part (tagNumbered place part j) (has .0) in
+      rw (upTo-at (length part) (tagNumbered place part) 0 j below) (rw (at .value, has .1) at (each (at .index) (at .inside))))
+
+  -- A tag stands in the slot of its place.
+  pub groupSlots-tag : (t : ℕ) → occurs t part ≡ true
+      → getD (groupSlots part seed (taken part seed)) (placeIn part seed (taken part seed) t) 0 ≡ t
+  unfolding groupSlots
+  groupSlots-tag t m =
+      let place = placeIn part seed (taken part seed) in
+      let has = tagNumbered-is place part (place t) record { from = t; listed = m; value = refl } in
+      upTo-at (length part) (tagNumbered place part) 0 (place t) (place-has-room part seed t m)
+      ∙ place-apart part seed (taken part seed) (a .differ) arranged-fills (tagNumbered place part (place t)) t (has .0) m (has .1)

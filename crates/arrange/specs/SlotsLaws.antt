@@ -1,0 +1,55 @@
+-- The slots of the first groups: those of one group more, how many they are, and which tag stands where. Assumes nothing.
+use Prim.Native.Nat.{ℕ, zero, suc, _+_, _≤_, _<_}
+use mathlib.Core.Path.{_≡_, refl, _∙_, ap}
+use mathlib.Core.Bool.{Bool, true, false}
+use mathlib.Core.List.{List, [], _++_, flatten}
+use native.Mathlib.Omega.{arith}
+use lib.Dec.{ltb}
+use lib.ListN.{length, getD, drop, length-append, length-drop, List·getD-append}
+use lib.Seq.{getD-append-add}
+use borrow.Author.Tests.{ltb-true, ltb-false}
+use Rattle.filling.specs.Places.{occurs}
+use Rattle.group.specs.Group.{taken}
+use Rattle.image.specs.Sheet.{upTo}
+use Rattle.image.specs.SheetLaws.{flatten-more}
+use Rattle.building.specs.Number.{placeIn}
+use Rattle.building.specs.Parts.{partStart, partOf, Parts}
+use Rattle.arrange.specs.Arrange.{AllArrangeable, slotsOfPart, allSlots}
+use Rattle.arrange.specs.PlaceLaws.{place-has-room, groupSlots-length, groupSlots-tag}
+use Rattle.arrange.specs.PartsLaws.{start-inside, start-rises, part-length}
+
+module _ (ordered ends seeds : List ℕ) where
+  -- The slots of no group are none.
+  pub slots-none : allSlots ordered ends seeds 0 ≡ []
+  unfolding allSlots upTo flatten
+  slots-none = refl
+
+  -- The slots of one group more stand at the end.
+  pub slots-more : (g : ℕ) → allSlots ordered ends seeds (suc g) ≡ allSlots ordered ends seeds g ++ slotsOfPart ordered ends seeds g
+  unfolding allSlots
+  slots-more g = flatten-more g (slotsOfPart ordered ends seeds)
+
+  -- A group's slots are as many as the tags of its part.
+  pub slotsOfPart-length : (g : ℕ) → length (slotsOfPart ordered ends seeds g) ≡ length (partOf ordered ends g)
+  unfolding slotsOfPart
+  slotsOfPart-length g = groupSlots-length (partOf ordered ends g) (getD seeds g 0)
+
+module _ {groups : ℕ} {ordered ends : List ℕ} (p : Parts groups ordered ends) (seeds : List ℕ) where
+  -- The slots of the first groups are as many as their tags.
+  pub slots-length : (g : ℕ) → g ≤ groups → length (allSlots ordered ends seeds g) ≡ partStart ends g
+  unfolding partStart
+  slots-length zero le = ap length (slots-none ordered ends seeds)
+  slots-length (suc g) le =
+      rw (slots-more ordered ends seeds g, length-append)
+      (omega (
+        arith,
+        slots-length g (omega arith),
+        slotsOfPart-length ordered ends seeds g,
+        part-length p g (omega arith),
+        p .follow g (omega arith),
+      ))
+
+  -- Cells that begin with the slots of the first groups, and are else as they were, keep their number.
+  pub slots-kept : (g : ℕ) → g ≤ groups → (before : List ℕ) → length ordered ≤ length before
+      → length (allSlots ordered ends seeds g ++ drop (partStart ends g) before) ≡ length before
+  slots-kept g le before room = simp (length-append, length-drop) (omega (arith, slots-length g le, start-inside p g le))

@@ -1,0 +1,62 @@
+// A group's tags put in the order of their places, and the slots of all groups one group's after the other's.
+use sequence::Choices;
+ghost use mathlib.Core.Path.{_≡_};
+ghost use mathlib.Core.Bool.{cond};
+ghost use mathlib.Core.List.{_++_};
+ghost use Prim.Native.Nat.{_<_};
+ghost use lib.ListN.{length, drop};
+ghost use Rattle.group.specs.Group.{taken};
+ghost use Rattle.insertion.specs.WordBits.{choiceIn};
+ghost use Rattle.building.specs.Parts.{partStart};
+ghost use Rattle.building.specs.GroupSlots.{groupSlots};
+ghost use Rattle.arrange.specs.Arrange.{Arrangeable, AllArrangeable, allSlots};
+
+// Writes the slots of all groups, one group's after the other's; the cells after them stay. Part g of the tags, in the order of the
+// groups, ends at `ends[g]`, and its seed is `seeds[g]`.
+pub fn arrange(ordered: &[u32], ends: &[usize], seeds: &[u32], groups: usize, slots: &mut [u32])
+    requires { ⌜ AllArrangeable groups (now ordered) (now ends) (now seeds) (length (now slots)) ⌝ }
+    ensures cells { λ _. ⌜ now (slots .exit) ≡ allSlots (now (ordered .entry)) (now (ends .entry)) (now (seeds .entry)) groups
+        ++ drop (partStart (now (ends .entry)) groups) (now (slots .entry)) ⌝ }
+{
+    let mut start = 0;
+    let mut g = 0;
+    while g < groups {
+        let end = ends[g];
+        arrange_group(&ordered[start..end], seeds[g], &mut slots[start..end]);
+        start = end;
+        g += 1;
+    }
+}
+
+// Writes the slots of one group: each tag into the cell of its place, under the seed and the sequence taken.
+pub fn arrange_group(part: &[u32], seed: u32, cells: &mut [u32])
+    requires { ⌜ Arrangeable (now part) seed (length (now cells)) ⌝ }
+    ensures cells { λ _. ⌜ now (cells .exit) ≡ groupSlots (now (part .entry)) seed (taken (now (part .entry)) seed) ⌝ }
+{
+    // Some sequence fills, so there is a word.
+    let Choices::Word(word) = sequence::choices_under(part, seed) else {
+        return;
+    };
+    let n = part.len() as u32;
+    let first = hash::multiplier(seed, 0);
+    let second = hash::multiplier(seed, 1);
+    let mut i: u32 = 0;
+    while i < n {
+        let tag = part[i as usize];
+        let place = hash::hashed(multiplier_at(word, i, first, second), n, tag);
+        cells[place as usize] = tag;
+        i += 1;
+    }
+}
+
+// The multiplier of the choice that the word has for the tag with index i.
+fn multiplier_at(word: u32, i: u32, first: u32, second: u32) -> u32
+    requires { ⌜ i < 32 ⌝ }
+    ensures answer { λ r. ⌜ r ≡ cond (choiceIn word i) second first ⌝ }
+{
+    if insertion::word::choice_at(word, i) == 1 {
+        second
+    } else {
+        first
+    }
+}

@@ -1,0 +1,100 @@
+// The operation "building": the image of a list, written at the beginning of a buffer.
+use refusal::First;
+use refusal::Reason;
+use refusal::Refusal;
+ghost use mathlib.Core.Path.{_≡_};
+ghost use Prim.Native.Nat.{_≤_};
+ghost use lib.ListN.{length};
+ghost use Rattle.refusal.specs.Limits.{tagsMax, groupsMax};
+ghost use Rattle.refusal.specs.Outcome.{refused};
+ghost use Rattle.refusal.specs.Reason.{reasonNumber};
+ghost use Rattle.image.specs.Sheet.{imageLength};
+ghost use Rattle.building.specs.Building.{buildingOf, bufferAfter};
+ghost use Rattle.building.specs.BuildingLaws.{Admitted};
+ghost use Rattle.condition3.specs.Condition3.{Condition3};
+ghost use Rattle.build.specs.Answer.{buildOutcome};
+ghost use Rattle.build.specs.Arrays.{Buildable};
+
+// What building answers: the length of the image, or refused.
+pub enum BuildAnswer {
+    Built(usize),
+    Refused(Refusal),
+}
+
+// The operation "building", for any list, any B and L, and any buffer.
+pub fn build(tags: &[u32], groups: u32, limit: u32, buffer: &mut [u8]) -> BuildAnswer
+    ensures answer { λ r. ⌜ buildOutcome r ≡ buildingOf (now (tags .entry)) groups limit (length (now (buffer .entry))) ⌝ }
+    ensures bytes { λ _. ⌜ now (buffer .exit) ≡ bufferAfter (now (tags .entry)) groups limit (now (buffer .entry)) ⌝ }
+    ensures condition3 { λ r. ⌜ Condition3 (now (tags .entry)) groups limit (length (now (buffer .entry))) (buildOutcome r) (now (buffer .exit)) ⌝ }
+{
+    if refusal::outside(1, refusal::GROUPS_MAX, groups) {
+        return refuse(Reason::GroupCountOutOfRange, 0);
+    }
+    if refusal::outside(1, refusal::LIMIT_MAX, limit) {
+        return refuse(Reason::LimitOutOfRange, 0);
+    }
+    if refusal::TAGS_MAX < tags.len() {
+        return refuse(Reason::TooManyTags, 0);
+    }
+    if let First::At(i) = ascending::first_not_above(tags) {
+        return refuse(Reason::NotAscending, i);
+    }
+    if buffer.len() < image_length(groups, tags.len()) {
+        return refuse(Reason::BufferTooShort, 0);
+    }
+    build_admitted(tags, groups, limit, buffer)
+}
+
+// A refusal that names no place, or this one.
+fn refuse(reason: Reason, place: usize) -> BuildAnswer
+    ensures answer { λ r. ⌜ buildOutcome r ≡ refused (reasonNumber reason) place ⌝ }
+{
+    BuildAnswer::Refused(Refusal { reason, place })
+}
+
+// Building where the checks 8, 4, 5, 6 and 9 pass: the tags are counted, and ordered by group.
+fn build_admitted(tags: &[u32], groups: u32, limit: u32, buffer: &mut [u8]) -> BuildAnswer
+    requires { ⌜ Admitted (now tags) groups limit (length (now buffer)) ⌝ }
+    ensures answer { λ r. ⌜ buildOutcome r ≡ buildingOf (now (tags .entry)) groups limit (length (now (buffer .entry))) ⌝ }
+    ensures bytes { λ _. ⌜ now (buffer .exit) ≡ bufferAfter (now (tags .entry)) groups limit (now (buffer .entry)) ⌝ }
+{
+    let mut counts = [0usize; 512];
+    order::count_members(tags, groups, &mut counts);
+    if let First::At(g) = order::first_large(&counts, groups as usize) {
+        return refuse(Reason::GroupTooLarge, g);
+    }
+    let mut ends = [0usize; 512];
+    let mut ordered = [0u32; 4096];
+    order::order_tags(tags, groups, &counts, &mut ends, &mut ordered);
+    build_ordered(tags, groups, limit, &ordered, &ends, buffer)
+}
+
+// Building from the tags ordered by group, of which none has more than 24. The seeds of all groups are known before the first byte is
+// written.
+fn build_ordered(
+    tags: &[u32],
+    groups: u32,
+    limit: u32,
+    ordered: &[u32],
+    ends: &[usize],
+    buffer: &mut [u8],
+) -> BuildAnswer
+    requires { ⌜ Buildable (now tags) groups limit (now ordered) (now ends) (length (now buffer)) ⌝ }
+    ensures answer { λ r. ⌜ buildOutcome r ≡ buildingOf (now (tags .entry)) groups limit (length (now (buffer .entry))) ⌝ }
+    ensures bytes { λ _. ⌜ now (buffer .exit) ≡ bufferAfter (now (tags .entry)) groups limit (now (buffer .entry)) ⌝ }
+{
+    let mut seeds = [0; 512];
+    if let First::At(g) = plan::plan_seeds(ordered, ends, groups as usize, limit, &mut seeds) {
+        return refuse(Reason::NoSeed, g);
+    }
+    write::write_image(ordered, ends, &seeds, groups as usize, tags.len(), buffer);
+    BuildAnswer::Built(image_length(groups, tags.len()))
+}
+
+// The length of the image, where B and N are in their ranges.
+fn image_length(groups: u32, count: usize) -> usize
+    requires { ⌜ (groups ≤ groupsMax) × (count ≤ tagsMax) ⌝ }
+    ensures answer { λ r. ⌜ r ≡ imageLength groups count ⌝ }
+{
+    11 * (1 + groups as usize + count)
+}

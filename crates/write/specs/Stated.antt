@@ -1,0 +1,48 @@
+-- The image that arrays state. Assumes nothing.
+use Prim.Native.Nat.{ℕ, _+_, _*_, _≤_, _<_}
+use mathlib.Core.List.{List}
+use lib.ListN.{length, getD}
+use Rattle.refusal.specs.Limits.{tagsMax, groupsMax}
+use Rattle.text.specs.Line.{lineLength, pairLine, tagLine}
+use Rattle.image.specs.Sheet.{Sheet, imageLength}
+use Rattle.building.specs.Parts.{partStart}
+
+-- The numbers that the arrays state: group g begins where the group before it ends; its seed is entry g of the seeds, and the tag of
+-- slot j is entry j of the slots.
+unfoldable pub statedSheet : List ℕ → List ℕ → List ℕ → ℕ → ℕ → Sheet
+statedSheet ends seeds slots groups count = record {
+  count = count;
+  groups = groups;
+  start = λ g. partStart ends g;
+  seed = λ g. getD seeds g 0;
+  slot = λ j. getD slots j 0;
+}
+
+-- The line of group g.
+unfoldable pub statedGroupLine : List ℕ → List ℕ → ℕ → List ℕ
+statedGroupLine ends seeds g = pairLine (partStart ends g) (getD seeds g 0)
+
+-- The line of slot j.
+unfoldable pub statedSlotLine : List ℕ → ℕ → List ℕ
+statedSlotLine slots j = tagLine (getD slots j 0)
+
+-- No group ends past the greatest number of tags.
+abbrev pub EndsSmall : List ℕ → ℕ → Type 0
+EndsSmall ends groups = (g : ℕ) → g < groups → getD ends g 0 ≤ tagsMax
+
+-- The group lines can be written from byte `at` on.
+pub record GroupsWritable (ends seeds : List ℕ) (groups at room : ℕ) : Type 0 where
+  pub ends-known : groups ≤ length ends
+  pub seeds-known : groups ≤ length seeds
+  pub ends-small : EndsSmall ends groups
+  pub room-enough : at + lineLength * groups ≤ room
+
+-- The arrays have what is to be written, the numbers are in their ranges, and the buffer has room.
+pub record Writable (ends seeds slots : List ℕ) (groups count room : ℕ) : Type 0 where
+  pub ends-known : groups ≤ length ends
+  pub seeds-known : groups ≤ length seeds
+  pub slots-known : count ≤ length slots
+  pub few-groups : groups ≤ groupsMax
+  pub few-slots : count ≤ tagsMax
+  pub ends-small : EndsSmall ends groups
+  pub room-enough : imageLength groups count ≤ room
