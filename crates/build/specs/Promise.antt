@@ -14,7 +14,7 @@ use Rattle.condition3.specs.Condition3.{Condition3}
 use Rattle.condition3.specs.Theorem.{condition3}
 
 -- The tags of a list of 32-bit numbers are tags.
-tags-of-words : (tags : List ℕ) → ((i : ℕ) → getD tags i 0 < tagEnd) → (t : ℕ) → occurs t tags ≡ true → t < tagEnd
+pub tags-of-words : (tags : List ℕ) → ((i : ℕ) → getD tags i 0 < tagEnd) → (t : ℕ) → occurs t tags ≡ true → t < tagEnd
 tags-of-words tags words t m = let at = occurs-getD tags t m in rw (at .value) at (words (at .index))
 
 -- The answer, the buffer, and Condition 3 of both: for an answer `outcome` that left `after`.

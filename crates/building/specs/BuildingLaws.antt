@@ -12,6 +12,7 @@ use Rattle.refusal.specs.Outcome.{answered, refused}
 use Rattle.refusal.specs.First.{first, metAt, isSome}
 use Rattle.refusal.specs.FirstLaws.{first-none, some-of-isSome}
 use Rattle.refusal.specs.Checks.{met, inOrder}
+use Rattle.refusal.specs.ChecksLaws.{inOrder-answered}
 use Rattle.group.specs.Group.{leastSeed}
 use Rattle.group.specs.GroupLaws.{LeastSeed, leastSeed-some}
 use Rattle.group.specs.Ascending.{limitCheck, ascendingCheck}
@@ -107,3 +108,11 @@ module _ (groups : ℕ) (tags : List ℕ) (limit : ℕ) where
     differ = ascending-distinct tags (ascending-of-check tags up);
     fills = λ g lt. (seed-least g (first-none (seedless groups tags limit) groups every g lt)) .fills;
   }
+
+-- The length that building answers is that of the image.
+pub answered-size : (tags : List ℕ) (groups limit room : ℕ) {size : ℕ} → buildingOf tags groups limit room ≡ answered size
+    → size ≡ imageLength groups (length tags)
+unfolding buildingOf
+answered-size tags groups limit room e =
+    let passed = inOrder-answered (buildingChecks tags groups limit room) (answered (imageLength groups (length tags))) e in
+    cc (passed .1)

@@ -1,7 +1,7 @@
 -- Condition 3 holds of building as it is defined, for every list, group count, seed limit and buffer. Assumes nothing.
 use mathlib.Core.Path.{_≡_, refl, sym, _∙_, ap}
 use mathlib.Core.Logic.{_⊎_, inl, inr, _↔_}
-use mathlib.Core.Bool.{Bool, true, false, not, true≢false}
+use mathlib.Core.Bool.{Bool, true, false, cond, not, true≢false}
 use mathlib.Core.List.{List, [], _∷_, _++_}
 use mathlib.Core.Option.{Option, none, some, Option·getD}
 use Prim.Native.Nat.{ℕ, zero, suc, _+_, _-_, _*_, _^_, _≤_, _<_}
@@ -219,7 +219,7 @@ built-checked tags groups limit room words e = go (inOrder-answered (buildingChe
         inOrder-pass (checkingChecks v) (answered 0) (pass-of-sound v sound)
 
 -- The buffer's first bytes after an accepted building are the image.
-image-written : (tags : List ℕ) (groups limit : ℕ) (before : List ℕ) (size : ℕ) → buildingOf tags groups limit (length before) ≡ answered size
+pub image-written : (tags : List ℕ) (groups limit : ℕ) (before : List ℕ) (size : ℕ) → buildingOf tags groups limit (length before) ≡ answered size
     → imageLength groups (length tags) ≡ size → take size (bufferAfter tags groups limit before) ≡ imageOf groups tags limit
 unfolding bufferAfter written
 image-written tags groups limit before size e same =
@@ -250,3 +250,23 @@ condition3 tags groups limit before words = record {
         let same : imageLength groups (length tags) ≡ size = cc in
         let h = earlier-of-pass tags groups limit room (eight, (four, (five, (order, (nine, (ten, tt)))))) in
         accepted-as tags groups limit room words h seven size (bufferAfter tags groups limit before) (sym same) (image-written tags groups limit before size e same)
+
+-- Lookup in the image that building writes, under the seeds and sequences that it takes.
+pub looked-up : (tags : List ℕ) (groups limit room : ℕ) {size : ℕ} → ((t : ℕ) → occurs t tags ≡ true → t < tagEnd)
+    → buildingOf tags groups limit room ≡ answered size → (t : ℕ) → lookupOf (imageOf groups tags limit) t
+    ≡ answered (cond (occurs t tags) (number (numberOf groups tags (seedTaken groups tags limit) (choicesTaken groups tags limit) t)) unknown)
+unfolding buildingOf buildingChecks lookupOf
+looked-up tags groups limit room words e t = go (inOrder-answered (buildingChecks tags groups limit room) (answered (imageLength groups (length tags))) e)
+  where
+    go : {size : ℕ} → Pass (buildingChecks tags groups limit room) × (answered (imageLength groups (length tags)) ≡ answered size)
+        → lookupOf (imageOf groups tags limit) t
+        ≡ answered (cond (occurs t tags) (number (numberOf groups tags (seedTaken groups tags limit) (choicesTaken groups tags limit) t)) unknown)
+    go ((eight, (four, (five, (order, (nine, (ten, (seven, end))))))), answer) = by (occurs t tags) refl
+      where
+        h : EarlierChecks tags groups limit room
+        h = earlier-of-pass tags groups limit room (eight, (four, (five, (order, (nine, (ten, tt))))))
+
+        by : (b : Bool) → occurs t tags ≡ b → lookupOf (imageOf groups tags limit) t
+            ≡ answered (cond (occurs t tags) (number (numberOf groups tags (seedTaken groups tags limit) (choicesTaken groups tags limit) t)) unknown)
+        by true m = rw m (built-listed (reads tags groups limit room words h seven) (all-fill tags groups limit room words h seven) (h .groups-small) t m)
+        by false m = rw m (built-unlisted (reads tags groups limit room words h seven) (all-fill tags groups limit room words h seven) (h .groups-small) t m)

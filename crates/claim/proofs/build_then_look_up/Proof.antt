@@ -1,0 +1,83 @@
+-- `claim::build_then_look_up` meets its contract: what is looked up in is the image, and there lookup answers what the list says.
+-- Assumes nothing.
+use mathlib.Core.Path.{_≡_, refl, sym, _∙_, ap}
+use native.Mathlib.Omega.{arith}
+use lib.Seq.{length-take-le}
+use Rattle.build.specs.Answer.{buildOutcome}
+use Rattle.build.specs.Promise.{tags-of-words}
+use Rattle.claim.specs.ClaimLaws.{claim-refused, written-within, claim-found}
+use borrow.Author.Needs.{needs}
+use Rattle.claim.proofs.build_then_look_up.Statement.{statement}
+use Rattle.claim.proofs.build_then_look_up.Tie as tie
+
+build-requires : tie.Need-build-requires
+build-requires c κs = search needs
+
+enum-known-size : tie.Need-enum-known-size
+enum-known-size c = search needs
+
+slice-reshare-prefix-lookup : tie.Need-slice-reshare-prefix-lookup
+slice-reshare-prefix-lookup c =
+    let told = c .before in
+    let built = told .before .before .before .before in
+    let start = built .before .before .before .before in
+    let a = start .args in
+    let outcome = sym (built .build .ensures .0) ∙ ap buildOutcome (told .size .given .1) in
+    written-within (a .tags .now) (a .groups) (a .limit) (a .buffer .now) (a .tag) (built .build .ensures .1 .0) outcome
+
+slice-aggregate-lookup : tie.Need-slice-aggregate-lookup
+slice-aggregate-lookup c =
+    let told = c .before .before in
+    let built = told .before .before .before .before in
+    let a = built .before .before .before .before .args in
+    let outcome = sym (built .build .ensures .0) ∙ ap buildOutcome (told .size .given .1) in
+    sym (length-take-le _ _ (written-within (a .tags .now) (a .groups) (a .limit) (a .buffer .now) (a .tag) (built .build .ensures .1 .0) outcome))
+
+lookup-requires : tie.Need-lookup-requires
+lookup-requires c κs = search needs
+
+enum-known-refusal : tie.Need-enum-known-refusal
+enum-known-refusal c = search needs
+
+same-length : tie.Need-same-length
+same-length c = search needs
+
+returns : tie.Need-returns
+returns c =
+    let told = c .before .before .before in
+    let built = told .before .before .before .before in
+    let known = built .before .before .before in
+    let a = known .before .args in
+    let outcome = sym (built .build .ensures .0) ∙ ap buildOutcome (told .size .given .1) in
+    let words = tags-of-words (a .tags .now) (λ i. omega (arith, known .shared-slice-known .given i)) in (
+      c .lookup .ensures .0 ∙ claim-found (a .tags .now) (a .groups) (a .limit) (a .buffer .now) (a .tag) words (built .build .ensures .1 .0) outcome,
+      (built .build .ensures .1 .0, rw (built .build .ensures .0) at (built .build .ensures .1 .1)),
+    )
+
+same-length-2 : tie.Need-same-length-2
+same-length-2 c = search needs
+
+returns-2 : tie.Need-returns-2
+returns-2 c =
+    let told = c .before in
+    let built = told .before .before .before .before in
+    let a = built .before .before .before .before .args in
+    let outcome = sym (built .build .ensures .0) ∙ ap buildOutcome (told .refusal .given .1) in (
+      sym (claim-refused (a .tags .now) (a .groups) (a .limit) (a .buffer .now) (a .tag) outcome),
+      (built .build .ensures .1 .0, rw (built .build .ensures .0) at (built .build .ensures .1 .1)),
+    )
+
+pub build-then-look-up-spec : {M : Type 1} → statement M
+build-then-look-up-spec =
+    tie.close
+    (tie.spec
+    build-requires
+    enum-known-size
+    slice-reshare-prefix-lookup
+    slice-aggregate-lookup
+    lookup-requires
+    enum-known-refusal
+    same-length
+    returns
+    same-length-2
+    returns-2)

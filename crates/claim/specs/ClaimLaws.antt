@@ -1,0 +1,39 @@
+-- The claim from building's answer, and from lookup in what it wrote. Assumes nothing.
+use mathlib.Core.Path.{_≡_, sym}
+use mathlib.Core.Bool.{true}
+use mathlib.Core.List.{List}
+use Prim.Native.Nat.{ℕ, _≤_, _<_}
+use native.Mathlib.Omega.{arith}
+use lib.ListN.{length, take, drop, length-append}
+use Rattle.refusal.specs.Limits.{tagEnd}
+use Rattle.refusal.specs.Outcome.{Outcome, answered, refused, followedBy}
+use Rattle.filling.specs.Places.{occurs}
+use Rattle.image.specs.Sheet.{imageLength}
+use Rattle.image.specs.Lookup.{lookupOf}
+use Rattle.building.specs.Building.{imageOf, buildingOf, bufferAfter}
+use Rattle.building.specs.BuildingLaws.{image-length, buffer-written, answered-size}
+use Rattle.condition3.specs.Theorem.{image-written, looked-up}
+use Rattle.claim.specs.Claim.{foundIn, claimOf}
+
+module _ (tags : List ℕ) (groups limit : ℕ) (before : List ℕ) (tag : ℕ) where
+  pub claim-refused : {number place : ℕ} → buildingOf tags groups limit (length before) ≡ refused number place
+      → claimOf tags groups limit (length before) tag ≡ refused number place
+  unfolding claimOf followedBy
+  claim-refused e = rw e
+
+  -- The written image lies within the buffer.
+  pub written-within : {size : ℕ} {after : List ℕ} → after ≡ bufferAfter tags groups limit before
+      → buildingOf tags groups limit (length before) ≡ answered size → size ≤ length after
+  written-within {size} is e =
+      let image = imageOf groups tags limit in
+      rw (is, buffer-written tags groups limit before e)
+      (omega (arith, answered-size tags groups limit (length before) e, image-length groups tags limit, length-append image (drop (length image) before)))
+
+  -- Lookup in the first bytes of the buffer gives the claim.
+  pub claim-found : {size : ℕ} {after : List ℕ} → ((t : ℕ) → occurs t tags ≡ true → t < tagEnd) → after ≡ bufferAfter tags groups limit before
+      → buildingOf tags groups limit (length before) ≡ answered size
+      → lookupOf (take size after) tag ≡ claimOf tags groups limit (length before) tag
+  unfolding claimOf followedBy foundIn
+  claim-found {size} words is e =
+      rw (is, image-written tags groups limit before size e (sym (answered-size tags groups limit (length before) e)), e)
+      (looked-up tags groups limit (length before) words e tag)

@@ -1,0 +1,29 @@
+// Condition 3 of the two real functions: building, and then lookup in what building wrote.
+use build::BuildAnswer;
+use lookup::LookupAnswer;
+ghost use mathlib.Core.Path.{_≡_};
+ghost use lib.ListN.{length};
+ghost use Rattle.building.specs.Building.{buildingOf, bufferAfter};
+ghost use Rattle.condition3.specs.Condition3.{Condition3};
+ghost use Rattle.lookup.specs.Answer.{lookupOutcome};
+ghost use Rattle.claim.specs.Claim.{claimOf};
+
+// Builds, and looks the tag up in the written image: the buffer's first bytes, as many as building answers. For any list, B, L, buffer
+// and tag; a refusal is building's.
+pub fn build_then_look_up(
+    tags: &[u32],
+    groups: u32,
+    limit: u32,
+    buffer: &mut [u8],
+    tag: u32,
+) -> LookupAnswer
+    ensures answer { λ r. ⌜ lookupOutcome r ≡ claimOf (now (tags .entry)) groups limit (length (now (buffer .entry))) tag ⌝ }
+    ensures bytes { λ _. ⌜ now (buffer .exit) ≡ bufferAfter (now (tags .entry)) groups limit (now (buffer .entry)) ⌝ }
+    ensures condition3 { λ _. ⌜ Condition3 (now (tags .entry)) groups limit (length (now (buffer .entry)))
+        (buildingOf (now (tags .entry)) groups limit (length (now (buffer .entry)))) (now (buffer .exit)) ⌝ }
+{
+    match build::build(tags, groups, limit, buffer) {
+        BuildAnswer::Built(size) => lookup::lookup(&buffer[..size], tag),
+        BuildAnswer::Refused(refusal) => LookupAnswer::Refused(refusal),
+    }
+}
