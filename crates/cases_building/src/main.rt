@@ -1,0 +1,220 @@
+// Runs cases of building: worked values 10, 11 and 12, each refusal and which of two comes first, and images byte by byte, with what
+// checking and lookup say of them.
+use build::BuildAnswer;
+use checking::CheckAnswer;
+use lookup::LookupAnswer;
+
+fn look_up(image: &[u8], tag: u32) {
+    report::words(b"  ");
+    report::number(tag as u64);
+    report::words(b": ");
+    match lookup::lookup(image, tag) {
+        LookupAnswer::Number(j) => report::number(j as u64),
+        LookupAnswer::Unknown => report::words(b"unknown"),
+        LookupAnswer::Refused(refusal) => report::refusal(refusal),
+    }
+    report::words(b"\n");
+}
+
+fn check(image: &[u8]) {
+    report::words(b"  ");
+    match checking::check_image(image) {
+        CheckAnswer::Accepted => report::words(b"accepted"),
+        CheckAnswer::Refused(refusal) => report::refusal(refusal),
+    }
+    report::words(b"\n");
+}
+
+fn look_up_each(image: &[u8], tags: &[u32]) {
+    let mut i = 0;
+    while i < tags.len() {
+        look_up(image, tags[i]);
+        i += 1;
+    }
+}
+
+// What stands at the beginning of the buffer, up to 9 bytes behind the image; and checking and lookups in the image.
+fn show(buffer: &[u8], size: usize, tags: &[u32]) {
+    if buffer.len() < 9 {
+        return;
+    }
+    if buffer.len() - 9 < size {
+        return;
+    }
+    report::words(&buffer[..size + 9]);
+    report::words(b"\n");
+    if size == 0 {
+        return;
+    }
+    let image = &buffer[..size];
+    check(image);
+    look_up_each(image, tags);
+    look_up(image, 77);
+}
+
+// Prints what building answers for the buffer's first `room` bytes, and how many bytes it wrote.
+fn build_into(tags: &[u32], groups: u32, limit: u32, room: usize, buffer: &mut [u8]) -> usize {
+    if buffer.len() < room {
+        return 0;
+    }
+    match build::build(tags, groups, limit, &mut buffer[..room]) {
+        BuildAnswer::Built(size) => {
+            report::number(size as u64);
+            report::words(b" bytes\n");
+            size
+        }
+        BuildAnswer::Refused(refusal) => {
+            report::refusal(refusal);
+            report::words(b"\n");
+            0
+        }
+    }
+}
+
+// Builds into the first `room` bytes of a buffer that is full of '#', and shows the answer, the image, and what stands behind it.
+fn build(tags: &[u32], groups: u32, limit: u32, room: usize) {
+    report::words(b"tags");
+    report::numbers(tags);
+    report::words(b", B ");
+    report::number(groups as u64);
+    report::words(b", L ");
+    report::number(limit as u64);
+    report::words(b", room ");
+    report::number(room as u64);
+    report::words(b": ");
+    let mut buffer = [b'#'; 6000];
+    let size = build_into(tags, groups, limit, room, &mut buffer);
+    show(&buffer, size, tags);
+}
+
+// The whole case, worked value 11: a buffer that is too short by one byte, exact, and longer.
+fn whole_case() {
+    build(&[1, 2, 3], 2, 9, 65);
+    build(&[1, 2, 3], 2, 9, 66);
+    build(&[1, 2, 3], 2, 9, 80);
+}
+
+// The starred values that are built, and others: empty lists, equal places, tags at both ends, several groups with seeds of their own.
+fn images() {
+    build(&[], 1, 1, 22);
+    build(&[], 3, 65536, 50);
+    build(&[1, 2], 1, 1, 44);
+    build(&[1, 3], 1, 2, 44);
+    build(&[0, 2147483648], 1, 1, 44);
+    build(&[0, 1073741824], 1, 1, 44);
+    build(&[599, 1193], 1, 1, 44);
+    build(&[0, 4294967295], 512, 1, 5665);
+    build(&[0, 4294967295], 5, 1, 100);
+    build(&[14, 337764173, 964266638, 2787973142], 1, 9, 90);
+    build(
+        &[10, 20, 30, 40, 50, 60, 70, 80, 90, 100, 110, 120, 130, 140],
+        3,
+        65536,
+        300,
+    );
+    build(
+        &[3, 7, 15, 31, 63, 127, 255, 511, 1023, 2047, 4095, 8191],
+        2,
+        999,
+        300,
+    );
+}
+
+// Each refusal, and which of two comes first: 8, 4, 5, 6, 9, 10, 7.
+fn refusals() {
+    build(&[1, 2, 3], 0, 9, 66);
+    build(&[1, 2, 3], 513, 9, 6000);
+    build(&[1, 2, 3], 4294967295, 0, 600);
+    build(&[1, 2, 3], 2, 0, 66);
+    build(&[1, 2, 3], 2, 65536, 66);
+    build(&[1, 2, 3], 2, 65537, 66);
+    build(&[3, 2, 1], 2, 0, 0);
+    build(&[1, 2, 2], 2, 9, 66);
+    build(&[5, 5], 1, 1, 44);
+    build(&[1, 2, 3, 0], 2, 9, 0);
+    build(&[1, 3], 1, 1, 43);
+    build(&[1, 3], 1, 1, 44);
+    build(&[0, 1073741824, 3221225472], 1, 200, 55);
+    build(&[5, 8, 13, 16], 3, 1, 88);
+    build(&[17, 23, 34, 40, 42, 45, 48, 51, 57], 3, 2, 143);
+    build(&[17, 23, 34, 40, 42, 45, 48, 51, 57], 3, 7, 143);
+    build(&[18, 20, 27, 34, 36, 40, 41, 43, 50], 3, 1, 143);
+}
+
+// 24 tags in one group pass to the search, 25 do not, also where the group is not the first; 10 comes before 7, and 9 before 10.
+fn sizes() {
+    let tags = [
+        3u32,
+        7,
+        15,
+        31,
+        63,
+        127,
+        255,
+        511,
+        1023,
+        2047,
+        4095,
+        8191,
+        16383,
+        32767,
+        65535,
+        131071,
+        262143,
+        524287,
+        1048575,
+        2097151,
+        4194303,
+        8388607,
+        16777215,
+        33554431,
+        67108863,
+    ];
+    build(&tags[..24], 1, 3, 600);
+    build(&tags, 1, 3, 600);
+    build(&tags, 1, 3, 296);
+    build(&tags, 1, 3, 297);
+    build(&[1, 2, 3, 1, 2], 1, 1, 66);
+    build(
+        &[
+            1,
+            2,
+            3,
+            4,
+            5,
+            6,
+            7,
+            9,
+            11,
+            13,
+            15,
+            17,
+            19,
+            21,
+            22,
+            24,
+            26,
+            28,
+            30,
+            32,
+            34,
+            36,
+            38,
+            40,
+            42,
+            45,
+            47,
+            49,
+        ],
+        2,
+        1,
+        600,
+    );
+}
+
+fn main() {
+    whole_case();
+    images();
+    refusals();
+    sizes();
+}

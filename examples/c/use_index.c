@@ -1,0 +1,76 @@
+/* Uses the tag index from C: builds the image of a list, checks it, looks up tags, and shows what
+ * refusals look like. tools/c-example compiles and runs it. */
+#include <stdio.h>
+#include <string.h>
+
+#include "tag_index.h"
+
+static uint8_t image[TAG_INDEX_LONGEST_IMAGE];
+
+/* Builds the image of a list text and prints the answer. */
+static uint64_t build(const char *text, size_t room) {
+    uint64_t answer = tag_index_build((const uint8_t *)text, strlen(text), image, room);
+    if (tag_index_refused(answer)) {
+        printf("build: refusal %u at %u\n", (unsigned)tag_index_refusal_number(answer),
+               (unsigned)tag_index_refusal_place(answer));
+    } else {
+        printf("build: %u bytes\n", (unsigned)answer);
+    }
+    return answer;
+}
+
+static void check(size_t length) {
+    uint64_t answer = tag_index_check(image, length);
+    if (tag_index_refused(answer)) {
+        printf("check: refusal %u at %u\n", (unsigned)tag_index_refusal_number(answer),
+               (unsigned)tag_index_refusal_place(answer));
+    } else {
+        printf("check: accepted\n");
+    }
+}
+
+static void look_up(size_t length, uint32_t tag) {
+    uint64_t answer = tag_index_lookup(image, length, tag);
+    if (tag_index_refused(answer)) {
+        printf("tag %lu: refusal %u at %u\n", (unsigned long)tag,
+               (unsigned)tag_index_refusal_number(answer),
+               (unsigned)tag_index_refusal_place(answer));
+    } else if (answer == TAG_INDEX_UNKNOWN) {
+        printf("tag %lu: unknown\n", (unsigned long)tag);
+    } else {
+        printf("tag %lu: number %u\n", (unsigned long)tag, (unsigned)answer);
+    }
+}
+
+int main(void) {
+    /* B = 2 groups, seed limit L = 9, and the tags 1, 2 and 3. */
+    const char *list = "    2    9\n"
+                       "         1\n"
+                       "         2\n"
+                       "         3\n";
+    uint64_t answer = build(list, sizeof image);
+    if (tag_index_refused(answer) || answer != tag_index_image_length(2, 3)) {
+        return 1;
+    }
+    size_t length = (size_t)answer;
+    fwrite(image, 1, length, stdout);
+    check(length);
+    for (uint32_t tag = 0; tag <= 4; tag++) {
+        look_up(length, tag);
+    }
+    look_up(length, UINT32_MAX);
+
+    /* A buffer one byte short, a list that is not ascending, a text that is cut: refused, and the
+     * image that stands in the buffer stays. */
+    build(list, length - 1);
+    build("    1    9\n         5\n         5\n", sizeof image);
+    build("    1    9\n         5", sizeof image);
+    check(length);
+
+    /* A damaged image: slot 0, which is line 3, no longer holds a figure. */
+    image[TAG_INDEX_LINE * 3 + 9] = 'x';
+    check(length);
+    look_up(length, 2);
+    look_up(length, 3);
+    return 0;
+}

@@ -1,0 +1,97 @@
+/* The C boundary of the two-choice tag index: building, checking and lookup.
+ *
+ * The functions stand in libboundary.a, for x86-64: `rt staticlib boundary` writes it to
+ * target/staticlib/.
+ *
+ * What a caller owes, and nothing else: each pointer and length is a valid range of memory, the
+ * pointer not null even where the length is 0; the range that building writes overlaps no other;
+ * and nothing else writes these ranges during the call. The bytes may be anything, the lengths
+ * and the tag too. A function reads and writes only inside the ranges given, and its answer
+ * depends on nothing but the arguments.
+ *
+ * Each answer is one 64-bit number. Below 2^32 it is what each function says; from 2^32 on it is a
+ * refusal, number × 2^32 + place, to be taken apart by the functions below.
+ */
+#ifndef TAG_INDEX_H
+#define TAG_INDEX_H
+
+#include <stddef.h>
+#include <stdint.h>
+
+#ifdef __cplusplus
+extern "C" {
+#endif
+
+/* The ranges of document 01. */
+#define TAG_INDEX_LARGEST_LIST 4096u   /* tags of a list, N */
+#define TAG_INDEX_LARGEST_GROUPS 512u  /* group count, B */
+#define TAG_INDEX_LARGEST_LIMIT 65536u /* seed limit, L */
+#define TAG_INDEX_LONGEST_TEXT 65527u  /* bytes of a list text that building examines */
+#define TAG_INDEX_LONGEST_IMAGE 50699u /* bytes of an image: a buffer so long is never too short */
+#define TAG_INDEX_LINE 11u             /* bytes of a line, of a list text and of an image */
+
+/* Lookup's answer where the image does not have the tag. */
+#define TAG_INDEX_UNKNOWN UINT64_C(4294967295)
+
+/* The numbers of the refusals, and what their place counts, from 0; it is 0 where none is said.
+ * 1 to 3 belong to "place of one tag" and never come from these functions. */
+enum tag_index_reason {
+    TAG_INDEX_SIZE_OUT_OF_RANGE = 1,
+    TAG_INDEX_SEED_OUT_OF_RANGE = 2,
+    TAG_INDEX_CHOICE_OUT_OF_RANGE = 3,
+    TAG_INDEX_LIMIT_OUT_OF_RANGE = 4,        /* L is not 1 to 65,536 */
+    TAG_INDEX_TOO_MANY_TAGS = 5,             /* above 4,096 tags, or a text above 65,527 bytes */
+    TAG_INDEX_NOT_ASCENDING = 6,             /* index: this tag is not above the one before */
+    TAG_INDEX_NO_SEED = 7,                   /* group: no seed below L serves it */
+    TAG_INDEX_GROUP_COUNT_OUT_OF_RANGE = 8,  /* B is not 1 to 512 */
+    TAG_INDEX_BUFFER_TOO_SHORT = 9,          /* the buffer is shorter than the image */
+    TAG_INDEX_GROUP_TOO_LARGE = 10,          /* group: it has more than 24 tags */
+    TAG_INDEX_WRONG_LENGTH = 11,             /* the image's length is not what line 0 says */
+    TAG_INDEX_MALFORMED_LINE = 12,           /* line of the image */
+    TAG_INDEX_FAULTY_GROUP = 13,             /* group: its start or its end does not fit */
+    TAG_INDEX_WRONG_SLOT = 14,               /* slot: its tag does not belong there */
+    TAG_INDEX_REPEATED_TAG = 15,             /* slot: its tag stands in a lower slot too */
+    TAG_INDEX_MALFORMED_LIST = 16            /* line of the list text */
+};
+
+/* Builds the image of a list text at the beginning of the buffer `image`.
+ *
+ * Answers the image's length, 22 to 50,699, or refusal 16, 5, 8, 4, 6, 9, 10 or 7. The bytes behind
+ * the image stay as they were; a refusal leaves all of them as they were. */
+uint64_t tag_index_build(const uint8_t *text, size_t text_length, uint8_t *image,
+                         size_t image_length);
+
+/* Checks an image of any origin: its length, every line, every group and every slot.
+ *
+ * Answers 0 if it is accepted, or refusal 11, 12, 13, 14 or 15. */
+uint64_t tag_index_check(const uint8_t *image, size_t image_length);
+
+/* Looks up a tag in an image, checked or not.
+ *
+ * Answers the tag's number, 0 to 4,095; TAG_INDEX_UNKNOWN if the image does not have it; or refusal
+ * 11, 12 or 13 if one of the few lines that it reads is at fault. */
+uint64_t tag_index_lookup(const uint8_t *image, size_t image_length, uint32_t tag);
+
+/* Whether an answer is a refusal. */
+static inline int tag_index_refused(uint64_t answer) { return (answer >> 32) != 0; }
+
+/* A refusal's number, one of enum tag_index_reason; 0 for an answer that is none. */
+static inline uint32_t tag_index_refusal_number(uint64_t answer) {
+    return (uint32_t)(answer >> 32);
+}
+
+/* A refusal's place: a line, index, group or slot, counted from 0. */
+static inline uint32_t tag_index_refusal_place(uint64_t answer) {
+    return (uint32_t)(answer & UINT64_C(4294967295));
+}
+
+/* The length of the image of so many tags in so many groups, both in the ranges above. */
+static inline size_t tag_index_image_length(size_t groups, size_t count) {
+    return TAG_INDEX_LINE * (1u + groups + count);
+}
+
+#ifdef __cplusplus
+}
+#endif
+
+#endif

@@ -1,0 +1,198 @@
+//! Runs cases against the model of document 01: the proved functions over the C boundary, answers
+//! and every byte of the buffer, and the index printer.
+//!
+//!     compare                  a million answers and more, under a minute
+//!     compare --long           more than ten million, and many more lists
+//!     compare --small          few cases, in memory of just the right size: for a memory checker
+//!     compare --stored         the stored outputs of the program crates, printed again from the model
+//!     compare --print PROGRAM  what the model writes for the cases of a program crate
+//!     compare --soak SECONDS   rebuilding and looking up in one process, whose memory must not grow
+//!
+//! `--seed NUMBER` takes other random cases, `--printer PATH` another printer than the repository's
+//! `target/bin/printer`, `--no-printer` none. The first difference ends the run with status 1.
+
+mod images;
+mod lists;
+mod printing;
+mod random;
+mod soak;
+mod stored;
+mod tally;
+mod texts;
+
+use std::env;
+use std::io::{self, Write};
+use std::path::{Path, PathBuf};
+use std::process::ExitCode;
+use std::time::{Duration, Instant};
+
+use random::Random;
+use tally::Tally;
+
+/// How many cases a run has.
+pub struct Size {
+    /// Rounds of one list of each kind, for building and for damage.
+    lists: usize,
+    full_lists: usize,
+    large_lists: usize,
+    /// Images of which each byte is changed, and by which steps: 1 is all other values.
+    small_images: usize,
+    byte_step: usize,
+    large_images: usize,
+    /// Faults in each large image.
+    large_samples: usize,
+    /// Rounds of lists for the printer.
+    printed: usize,
+    /// Fewer answers than this are a fault of the run.
+    least: u64,
+}
+
+const SMALL: Size = Size {
+    lists: 1,
+    full_lists: 1,
+    large_lists: 1,
+    small_images: 2,
+    byte_step: 51,
+    large_images: 1,
+    large_samples: 3,
+    printed: 0,
+    least: 1_000,
+};
+
+const USUAL: Size = Size {
+    lists: 500,
+    full_lists: 100,
+    large_lists: 150,
+    small_images: 99,
+    byte_step: 1,
+    large_images: 12,
+    large_samples: 100,
+    printed: 12,
+    least: 1_000_000,
+};
+
+const LONG: Size = Size {
+    lists: 6_000,
+    full_lists: 1_000,
+    large_lists: 1_500,
+    small_images: 99,
+    byte_step: 1,
+    large_images: 80,
+    large_samples: 400,
+    printed: 100,
+    least: 10_000_000,
+};
+
+enum Task {
+    Compare,
+    Stored,
+    Print(String),
+    Soak(Duration),
+}
+
+struct Options {
+    task: Task,
+    size: Size,
+    /// Lend memory of just the right size.
+    exact: bool,
+    seed: u64,
+    printer: Option<PathBuf>,
+}
+
+/// The repository's root: two directories above this crate.
+pub fn root() -> PathBuf {
+    Path::new(env!("CARGO_MANIFEST_DIR")).join("../..")
+}
+
+fn options() -> Result<Options, String> {
+    let mut options = Options {
+        task: Task::Compare,
+        size: USUAL,
+        exact: false,
+        seed: 1,
+        printer: Some(root().join("target/bin/printer")),
+    };
+    let mut words = env::args().skip(1);
+    while let Some(word) = words.next() {
+        let mut value = || words.next().ok_or(format!("{word} needs a value"));
+        let number = |word: String| {
+            word.parse::<u64>()
+                .map_err(|_| format!("{word}: no number"))
+        };
+        match word.as_str() {
+            "--long" => options.size = LONG,
+            "--small" => {
+                options.size = SMALL;
+                options.exact = true;
+                options.printer = None;
+            }
+            "--stored" => options.task = Task::Stored,
+            "--print" => options.task = Task::Print(value()?),
+            "--soak" => options.task = Task::Soak(Duration::from_secs(number(value()?)?)),
+            "--seed" => options.seed = number(value()?)?,
+            "--printer" => options.printer = Some(PathBuf::from(value()?)),
+            "--no-printer" => options.printer = None,
+            _ => return Err(format!("{word} is not known")),
+        }
+    }
+    Ok(options)
+}
+
+fn main() -> ExitCode {
+    let options = match options() {
+        Ok(options) => options,
+        Err(fault) => {
+            eprintln!("compare: {fault}");
+            return ExitCode::from(2);
+        }
+    };
+    let passed = match &options.task {
+        Task::Compare => compare(&options),
+        Task::Stored => stored::compare(&root().join("crates")),
+        Task::Print(program) => print(program),
+        Task::Soak(time) => soak::run(options.seed, *time),
+    };
+    if passed {
+        ExitCode::SUCCESS
+    } else {
+        ExitCode::FAILURE
+    }
+}
+
+fn print(program: &str) -> bool {
+    match stored::written(program) {
+        Some(output) => io::stdout().write_all(&output).is_ok(),
+        None => {
+            eprintln!("compare: {program} has no cases here");
+            false
+        }
+    }
+}
+
+fn compare(options: &Options) -> bool {
+    let begun = Instant::now();
+    if let Some(printer) = options.printer.as_ref().filter(|path| !path.is_file()) {
+        println!("compare: there is no printer {}", printer.display());
+        return false;
+    }
+    let mut tally = Tally::new(options.exact);
+    let mut random = Random::new(options.seed);
+    let size = &options.size;
+    lists::compare(&mut tally, &mut random, size);
+    texts::compare(&mut tally, &mut random, size);
+    images::compare(&mut tally, &mut random, size);
+    if let Some(printer) = &options.printer {
+        printing::compare(&mut tally, &mut random, size, printer);
+    }
+    let complete = tally.report();
+    let compared = tally.compared();
+    println!(
+        "compare: {compared} answers, no difference; seed {}, {:.1} s",
+        options.seed,
+        begun.elapsed().as_secs_f64()
+    );
+    if compared < size.least {
+        println!("compare: fewer than {} answers", size.least);
+    }
+    complete && compared >= size.least
+}

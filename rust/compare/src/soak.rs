@@ -1,0 +1,160 @@
+//! One process that rebuilds and looks up for a given time: every answer must be the model's, and
+//! the process must not grow.
+
+use std::fs;
+use std::time::{Duration, Instant};
+
+use tag_index::raw;
+
+use crate::lists::{large, structured};
+use crate::random::Random;
+use crate::tally::differs;
+
+/// The process may grow by so much after the first rounds: a few pages that the allocator or the
+/// stack had not touched before. A leak of one byte a call is more within a second.
+const ALLOWED_KIB: u64 = 256;
+
+/// Rounds before the first look at the memory.
+const WARM_UP: usize = 3;
+
+/// One list, and all that the model says of it.
+struct Expected {
+    text: Vec<u8>,
+    room: usize,
+    built: u64,
+    /// The buffer after building; the image is its beginning.
+    buffer: Vec<u8>,
+    checked: u64,
+    found: Vec<(u32, u64)>,
+    /// One byte of the image changed, and what the model says then.
+    damage: Option<Damage>,
+}
+
+struct Damage {
+    at: usize,
+    byte: u8,
+    checked: u64,
+    found: (u32, u64),
+}
+
+pub fn run(seed: u64, time: Duration) -> bool {
+    let expected = expected(&mut Random::new(seed));
+    let mut buffer = vec![0; expected.iter().map(|one| one.room).max().unwrap_or(0)];
+    let mut answers = 0;
+    // From here on this side takes no memory: what grows is the library's.
+    for _ in 0..WARM_UP {
+        answers += round(&expected, &mut buffer);
+    }
+    let before = resident_kib();
+    let begun = Instant::now();
+    let mut rounds = 0;
+    while begun.elapsed() < time || rounds == 0 {
+        answers += round(&expected, &mut buffer);
+        rounds += 1;
+    }
+    let after = resident_kib();
+    println!(
+        "soak: {rounds} rounds over {} lists in {} s, {answers} answers, no difference",
+        expected.len(),
+        begun.elapsed().as_secs()
+    );
+    println!("soak: VmRSS {before} KiB after warm-up, {after} KiB at the end; {ALLOWED_KIB} KiB more are allowed");
+    if after > before + ALLOWED_KIB {
+        println!("soak: the process grew by {} KiB", after - before);
+        return false;
+    }
+    true
+}
+
+fn expected(random: &mut Random) -> Vec<Expected> {
+    let mut cases: Vec<_> = (0..8)
+        .flat_map(|_| structured(random))
+        .map(|(_, case)| case)
+        .collect();
+    cases.extend((0..4).map(|_| large(random)));
+    cases
+        .iter()
+        .map(|case| {
+            let text = case.text();
+            let room = case.length();
+            let mut buffer = vec![128; room];
+            let built = model::answer_build(&text, &mut buffer);
+            let mut tags = case.tags.clone();
+            tags.extend((0..20).map(|_| random.tag()));
+            let found = tags
+                .iter()
+                .map(|&tag| (tag, model::answer_lookup(&buffer, tag)))
+                .collect();
+            let damage = (built >> 32 == 0).then(|| {
+                let (at, byte) = (random.below(room), random.next() as u8);
+                let mut changed = buffer.clone();
+                changed[at] = byte;
+                let tag = tags[random.below(tags.len())];
+                Damage {
+                    at,
+                    byte,
+                    checked: model::answer_check(&changed),
+                    found: (tag, model::answer_lookup(&changed, tag)),
+                }
+            });
+            Expected {
+                checked: model::answer_check(&buffer),
+                text,
+                room,
+                built,
+                buffer,
+                found,
+                damage,
+            }
+        })
+        .collect()
+}
+
+/// Rebuilds every list once and asks for all its tags; the number of answers.
+fn round(expected: &[Expected], buffer: &mut [u8]) -> u64 {
+    let mut answers = 0;
+    for (index, one) in expected.iter().enumerate() {
+        let mut hold = |answer: u64, model: u64, operation: &str| {
+            answers += 1;
+            if answer != model {
+                differs(&format!(
+                    "soak, {operation} of list {index}: {answer} instead of {model}"
+                ));
+            }
+        };
+        let image = &mut buffer[..one.room];
+        image.fill(128);
+        hold(raw::build(&one.text, image), one.built, "building");
+        if image != one.buffer {
+            differs(&format!(
+                "soak, building of list {index}: other bytes in the buffer"
+            ));
+        }
+        hold(raw::check(image), one.checked, "checking");
+        for &(tag, found) in &one.found {
+            hold(raw::lookup(image, tag), found, "lookup");
+        }
+        if let Some(damage) = &one.damage {
+            image[damage.at] = damage.byte;
+            hold(
+                raw::check(image),
+                damage.checked,
+                "checking a damaged image",
+            );
+            let (tag, found) = damage.found;
+            hold(raw::lookup(image, tag), found, "lookup in a damaged image");
+        }
+    }
+    answers
+}
+
+/// The memory of this process that is in use now.
+fn resident_kib() -> u64 {
+    let status = fs::read_to_string("/proc/self/status").expect("/proc/self/status can be read");
+    status
+        .lines()
+        .find_map(|line| line.strip_prefix("VmRSS:"))
+        .and_then(|rest| rest.trim().strip_suffix("kB"))
+        .and_then(|figure| figure.trim().parse().ok())
+        .expect("VmRSS is a number of KiB")
+}

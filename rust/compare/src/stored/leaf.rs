@@ -1,0 +1,44 @@
+//! The cases of `cases_leaf`: place of one tag, at the ranges' ends and beyond them; groups.
+
+use super::Output;
+
+pub fn write(output: &mut Output) {
+    for (n, seed, choice, tag) in [
+        // Worked values 1 and 3, and the ends of each range.
+        (2, 0, 0, 1),
+        (2, 0, 0, 2),
+        (2, 1, 0, 1),
+        (2, 1, 1, 1),
+        (2, 1, 0, 3),
+        (2, 1, 1, 3),
+        (24, 65_535, 1, u32::MAX),
+        (1, 0, 0, 0),
+        // The refusals 1, 2, 3, and that the first condition met decides.
+        (0, 0, 0, 7),
+        (25, 0, 0, 7),
+        (u32::MAX, u32::MAX, u32::MAX, 7),
+        (24, 65_536, 0, 7),
+        (24, 65_536, 2, 7),
+        (24, 65_535, 2, 7),
+    ] {
+        output.words(format!(
+            "place of {tag} among {n}, seed {seed}, choice {choice}: "
+        ));
+        match model::place_of_one_tag(n, seed, choice, tag) {
+            Ok(place) => output.words(place.to_string()),
+            Err(refusal) => output.refusal(refusal),
+        }
+        output.words("\n");
+    }
+    for (groups, tag) in [
+        (2, 1),
+        (2, 2),
+        (2, 3),
+        (1, u32::MAX),
+        (512, u32::MAX),
+        (512, 0),
+    ] {
+        let group = model::hash::group_of(tag, groups);
+        output.words(format!("group of {tag} among {groups}: {group}\n"));
+    }
+}

@@ -1,0 +1,122 @@
+//! The stored outputs of the program crates, printed again from the model.
+//!
+//! A program crate `crates/cases_X` runs chosen cases of the proved code, and its file `stdout`
+//! is what it must write. Here one file a program runs the same cases on the model and writes
+//! them in the same form. A program that has no file here is a fault: a new one takes a file and a
+//! row of `PROGRAMS`.
+
+mod building;
+mod exhausted;
+mod image;
+mod leaf;
+mod list;
+mod long;
+mod placing;
+mod text;
+
+use std::fs;
+use std::path::Path;
+
+/// Each program, and what the model writes for its cases.
+type Program = (&'static str, fn(&mut Output));
+
+const PROGRAMS: &[Program] = &[
+    ("cases_leaf", leaf::write),
+    ("cases_text", text::write),
+    ("cases_placing", placing::write),
+    ("cases_exhausted", exhausted::write),
+    ("cases_building", building::write),
+    ("cases_image", image::write),
+    ("cases_list", list::write),
+    ("cases_long", long::write),
+];
+
+/// What a program writes, as the crate `report` lets the proved programs write it.
+#[derive(Default)]
+pub struct Output(Vec<u8>);
+
+impl Output {
+    pub fn words(&mut self, words: impl AsRef<[u8]>) {
+        self.0.extend_from_slice(words.as_ref());
+    }
+
+    pub fn refusal(&mut self, refusal: model::Refusal) {
+        self.words(format!("refused {} at {}", refusal.number, refusal.place));
+    }
+
+    /// Each number, with a space before it.
+    pub fn numbers(&mut self, numbers: &[u32]) {
+        for number in numbers {
+            self.words(format!(" {number}"));
+        }
+    }
+}
+
+/// What the model writes for the cases of a program.
+pub fn written(program: &str) -> Option<Vec<u8>> {
+    let (_, write) = PROGRAMS.iter().find(|(name, _)| *name == program)?;
+    let mut output = Output::default();
+    write(&mut output);
+    Some(output.0)
+}
+
+/// Compares every stored output below `crates`, and says whether all are what the model writes.
+pub fn compare(crates: &Path) -> bool {
+    let mut passed = true;
+    for &(name, write) in PROGRAMS {
+        let mut output = Output::default();
+        write(&mut output);
+        passed &= match fs::read(crates.join(name).join("stdout")) {
+            Ok(stored) => same(name, &stored, &output.0),
+            Err(error) => {
+                println!("stored: {name} has no stored output: {error}");
+                false
+            }
+        };
+    }
+    for name in programs_below(crates) {
+        if !PROGRAMS.iter().any(|(known, _)| *known == name) {
+            println!("stored: difference: {name} has a stored output, and the model writes none");
+            passed = false;
+        }
+    }
+    passed
+}
+
+fn same(name: &str, stored: &[u8], written: &[u8]) -> bool {
+    if stored == written {
+        let lines = written.iter().filter(|&&byte| byte == b'\n').count();
+        println!("stored: {name}: as the model writes it, lines: {lines}");
+        return true;
+    }
+    let ours: Vec<&[u8]> = stored.split(|&byte| byte == b'\n').collect();
+    let theirs: Vec<&[u8]> = written.split(|&byte| byte == b'\n').collect();
+    let line = (0..ours.len().max(theirs.len()))
+        .find(|&line| ours.get(line) != theirs.get(line))
+        .unwrap_or(0);
+    let shown = |lines: &[&[u8]]| match lines.get(line) {
+        Some(line) => format!("\"{}\"", line.escape_ascii()),
+        None => "nothing".to_string(),
+    };
+    println!(
+        "stored: difference: {name}, line {}: stored is {}, the model writes {}",
+        line + 1,
+        shown(&ours),
+        shown(&theirs)
+    );
+    false
+}
+
+/// The program crates that run cases and have a stored output.
+fn programs_below(crates: &Path) -> Vec<String> {
+    let mut names: Vec<String> = fs::read_dir(crates)
+        .into_iter()
+        .flatten()
+        .flatten()
+        .filter(|entry| entry.path().join("stdout").is_file())
+        .filter_map(|entry| entry.file_name().into_string().ok())
+        .filter(|name| name.starts_with("cases_"))
+        .collect();
+    names.sort();
+    names
+}

@@ -1,0 +1,45 @@
+//! The answers of the three calls over the C boundary.
+//!
+//! "Each call answers one 64-bit number: the length, the tag's number or 0 for an accepted check;
+//! 4,294,967,295 for unknown; and for a refusal its number × 2^32 plus its place."
+
+use crate::building::build;
+use crate::checking::check;
+use crate::lookup::{lookup, Found};
+use crate::printer::read_bounded_list;
+use crate::refusal::Refusal;
+
+/// The answer that stands for unknown.
+pub const UNKNOWN: u64 = 4_294_967_295;
+
+/// "There building takes a list text, as reading does, and reading's refusals come first; before
+/// them, a text above 65,527 bytes is refused with 5 at place 0."
+pub fn answer_build(text: &[u8], buffer: &mut [u8]) -> u64 {
+    let built =
+        read_bounded_list(text).and_then(|list| build(&list.tags, list.groups, list.limit, buffer));
+    match built {
+        Ok(length) => length as u64,
+        Err(refusal) => answer_of_refusal(refusal),
+    }
+}
+
+/// 0 if checking accepts the image.
+pub fn answer_check(image: &[u8]) -> u64 {
+    match check(image) {
+        Ok(()) => 0,
+        Err(refusal) => answer_of_refusal(refusal),
+    }
+}
+
+/// The tag's number, at most 4,095, or the answer for unknown.
+pub fn answer_lookup(image: &[u8], tag: u32) -> u64 {
+    match lookup(image, tag) {
+        Ok(Found::Number(number)) => u64::from(number),
+        Ok(Found::Unknown) => UNKNOWN,
+        Err(refusal) => answer_of_refusal(refusal),
+    }
+}
+
+fn answer_of_refusal(refusal: Refusal) -> u64 {
+    (u64::from(refusal.number) << 32) + refusal.place
+}

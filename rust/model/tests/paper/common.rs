@@ -1,0 +1,85 @@
+//! What several test files use: the whole case, groups with a known fate, random tags.
+
+use model::hash::place_of;
+use model::Refusal;
+
+/// The whole case of the paper: the list text.
+pub const WHOLE_CASE_TEXT: &[u8] = b"    2    9\n         1\n         2\n         3\n";
+
+/// The whole case of the paper: the image, 66 bytes.
+pub const WHOLE_CASE_IMAGE: &[u8] =
+    b"    3    2\n    0    0\n    1    1\n         2\n         1\n         3\n";
+
+pub fn refusal(number: u32, place: u64) -> Refusal {
+    Refusal { number, place }
+}
+
+/// A copy of a text with one line replaced by another of 11 bytes.
+pub fn with_line(text: &[u8], index: usize, line: &[u8]) -> Vec<u8> {
+    assert_eq!(line.len(), 11);
+    let mut changed = text.to_vec();
+    changed[11 * index..11 * (index + 1)].copy_from_slice(line);
+    changed
+}
+
+/// Both places of each tag under a seed.
+pub fn places(tags: &[u32], seed: u32) -> Vec<[u32; 2]> {
+    let n = tags.len() as u32;
+    tags.iter()
+        .map(|&tag| [place_of(n, seed, 0, tag), place_of(n, seed, 1, tag)])
+        .collect()
+}
+
+/// The places that a choice word gives the tags.
+pub fn chosen_places(tags: &[u32], seed: u32, word: u32) -> Vec<u32> {
+    let pairs = places(tags, seed);
+    (0..tags.len())
+        .map(|index| pairs[index][(word >> index & 1) as usize])
+        .collect()
+}
+
+/// "It fills the group under a seed if the n chosen places are all different."
+pub fn fills(tags: &[u32], seed: u32, word: u32) -> bool {
+    let mut chosen = chosen_places(tags, seed, word);
+    chosen.sort_unstable();
+    chosen.windows(2).all(|pair| pair[0] != pair[1])
+}
+
+/// 24 tags that no seed serves: multiples of 2^27, for which only the seed's last three bits count.
+pub fn group_without_seed() -> Vec<u32> {
+    (0..24).map(|k| k << 27).collect()
+}
+
+/// The first tags of a group, from tag 1 on.
+pub fn tags_of_group(group: u32, groups: u32, count: usize) -> Vec<u32> {
+    (1..)
+        .filter(|&tag| model::hash::group_of(tag, groups) == group)
+        .take(count)
+        .collect()
+}
+
+/// A repeatable source of numbers (splitmix64).
+pub struct Random(pub u64);
+
+impl Random {
+    pub fn next(&mut self) -> u64 {
+        self.0 = self.0.wrapping_add(0x9E37_79B9_7F4A_7C15);
+        let mut mixed = self.0;
+        mixed = (mixed ^ (mixed >> 30)).wrapping_mul(0xBF58_476D_1CE4_E5B9);
+        mixed = (mixed ^ (mixed >> 27)).wrapping_mul(0x94D0_49BB_1331_11EB);
+        mixed ^ (mixed >> 31)
+    }
+
+    pub fn below(&mut self, bound: usize) -> usize {
+        (self.next() % bound as u64) as usize
+    }
+
+    /// Ascending tags, `count` of them, each a multiple of `step`.
+    pub fn tags(&mut self, count: usize, step: u32) -> Vec<u32> {
+        let mut tags = std::collections::BTreeSet::new();
+        while tags.len() < count {
+            tags.insert(self.next() as u32 / step * step);
+        }
+        tags.into_iter().collect()
+    }
+}

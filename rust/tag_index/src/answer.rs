@@ -1,0 +1,173 @@
+//! The 64-bit answers of the C boundary, taken apart.
+//!
+//! Document 01 bounds every answer: which refusals an operation has, which places they name, how
+//! large a number is. An answer outside these bounds can only come from another library than the
+//! proved one, so taking it apart panics: there is no safe way on, and no caller could do better.
+
+use crate::refusal::{Reason, Refusal};
+use crate::{LARGEST_GROUP_COUNT, LARGEST_LIST, LONGEST_IMAGE, LONGEST_TEXT};
+
+/// The answer that stands for unknown.
+pub const UNKNOWN: u64 = 4_294_967_295;
+
+/// The refusals that each operation has over the C boundary.
+const BUILDING: [Reason; 8] = [
+    Reason::MalformedList,
+    Reason::TooManyTags,
+    Reason::GroupCountOutOfRange,
+    Reason::LimitOutOfRange,
+    Reason::NotAscending,
+    Reason::BufferTooShort,
+    Reason::GroupTooLarge,
+    Reason::NoSeed,
+];
+const CHECKING: [Reason; 5] = [
+    Reason::WrongLength,
+    Reason::MalformedLine,
+    Reason::FaultyGroup,
+    Reason::WrongSlot,
+    Reason::RepeatedTag,
+];
+const LOOKUP: [Reason; 3] = [
+    Reason::WrongLength,
+    Reason::MalformedLine,
+    Reason::FaultyGroup,
+];
+
+/// Building's answer for a buffer of `room` bytes: the image's length, or the refusal.
+pub(crate) fn built(answer: u64, room: usize) -> Result<usize, Refusal> {
+    if let Some(refusal) = refusal(answer, &BUILDING) {
+        return Err(refusal);
+    }
+    let longest = room.min(LONGEST_IMAGE) as u64;
+    // One line and at least one group line.
+    if !(22..=longest).contains(&answer) || !answer.is_multiple_of(11) {
+        not_allowed("building", answer);
+    }
+    Ok(answer as usize)
+}
+
+/// Checking's answer: 0, or the refusal.
+pub(crate) fn checked(answer: u64) -> Result<(), Refusal> {
+    if let Some(refusal) = refusal(answer, &CHECKING) {
+        return Err(refusal);
+    }
+    if answer != 0 {
+        not_allowed("checking", answer);
+    }
+    Ok(())
+}
+
+/// Lookup's answer: the tag's number, nothing for unknown, or the refusal.
+pub(crate) fn looked_up(answer: u64) -> Result<Option<u32>, Refusal> {
+    if let Some(refusal) = refusal(answer, &LOOKUP) {
+        return Err(refusal);
+    }
+    if answer == UNKNOWN {
+        return Ok(None);
+    }
+    if answer >= LARGEST_LIST as u64 {
+        not_allowed("lookup", answer);
+    }
+    Ok(Some(answer as u32))
+}
+
+/// The refusal that an answer stands for, if it is one of `reasons` at a place that it can name.
+/// An answer without such a refusal goes back to the caller, which has bounds of its own.
+fn refusal(answer: u64, reasons: &[Reason]) -> Option<Refusal> {
+    let reason = Reason::from_number((answer >> 32) as u32)?;
+    let place = answer as u32;
+    (reasons.contains(&reason) && places(reason).contains(&place))
+        .then_some(Refusal { reason, place })
+}
+
+/// The places that a refusal can name over the C boundary.
+fn places(reason: Reason) -> std::ops::RangeInclusive<u32> {
+    let last_slot = LARGEST_LIST as u32 - 1;
+    match reason {
+        Reason::NotAscending => 1..=last_slot,
+        Reason::NoSeed | Reason::GroupTooLarge | Reason::FaultyGroup => 0..=LARGEST_GROUP_COUNT - 1,
+        Reason::WrongSlot | Reason::RepeatedTag => 0..=last_slot,
+        Reason::MalformedLine => 0..=(LONGEST_IMAGE / 11) as u32 - 1,
+        Reason::MalformedList => 0..=(LONGEST_TEXT / 11) as u32 - 1,
+        _ => 0..=0,
+    }
+}
+
+fn not_allowed(operation: &str, answer: u64) -> ! {
+    panic!("{operation} answered {answer}, which document 01 does not allow: the linked libboundary.a is not the proved one")
+}
+
+#[cfg(test)]
+mod tests {
+    use super::*;
+    use std::panic::catch_unwind;
+
+    fn refused(number: u64, place: u64) -> u64 {
+        (number << 32) + place
+    }
+
+    #[test]
+    fn answers_at_their_bounds_are_taken() {
+        assert_eq!(built(22, 22), Ok(22));
+        assert_eq!(built(50_699, 60_000), Ok(50_699));
+        assert_eq!(checked(0), Ok(()));
+        assert_eq!(looked_up(0), Ok(Some(0)));
+        assert_eq!(looked_up(4_095), Ok(Some(4_095)));
+        assert_eq!(looked_up(UNKNOWN), Ok(None));
+        let reason = Reason::MalformedList;
+        let last_line = Refusal {
+            reason,
+            place: 5_956,
+        };
+        assert_eq!(built(refused(16, 5_956), 0), Err(last_line));
+    }
+
+    #[test]
+    fn every_refusal_of_every_operation_is_taken_at_its_last_place() {
+        for reason in Reason::ALL {
+            let place = *places(reason).end();
+            let answer = refused(reason.number().into(), place.into());
+            let refusal = Refusal { reason, place };
+            assert_eq!(BUILDING.contains(&reason), built_is(answer, refusal));
+            assert_eq!(CHECKING.contains(&reason), checked_is(answer, refusal));
+            assert_eq!(LOOKUP.contains(&reason), looked_up_is(answer, refusal));
+        }
+    }
+
+    fn built_is(answer: u64, refusal: Refusal) -> bool {
+        catch_unwind(|| built(answer, LONGEST_IMAGE)).is_ok_and(|taken| taken == Err(refusal))
+    }
+
+    fn checked_is(answer: u64, refusal: Refusal) -> bool {
+        catch_unwind(|| checked(answer)).is_ok_and(|taken| taken == Err(refusal))
+    }
+
+    fn looked_up_is(answer: u64, refusal: Refusal) -> bool {
+        catch_unwind(|| looked_up(answer)).is_ok_and(|taken| taken == Err(refusal))
+    }
+
+    #[test]
+    fn an_answer_that_document_01_does_not_allow_panics() {
+        // No length: too small, no multiple of 11, longer than the buffer or than any image.
+        for (answer, room) in [(0, 99), (11, 99), (23, 99), (33, 32), (50_710, 60_000)] {
+            assert!(catch_unwind(|| built(answer, room)).is_err(), "{answer}");
+        }
+        for answer in [1, UNKNOWN, UNKNOWN + 1, refused(11, 1), refused(13, 512)] {
+            assert!(catch_unwind(|| checked(answer)).is_err(), "{answer}");
+        }
+        for answer in [4_096, UNKNOWN - 1, refused(14, 0), refused(12, 4_609)] {
+            assert!(catch_unwind(|| looked_up(answer)).is_err(), "{answer}");
+        }
+        // No number of a reason, a place that the reason does not name, a place out of range.
+        for answer in [
+            refused(17, 0),
+            u64::MAX,
+            refused(9, 1),
+            refused(6, 0),
+            refused(16, 5_957),
+        ] {
+            assert!(catch_unwind(|| built(answer, 99)).is_err(), "{answer}");
+        }
+    }
+}

@@ -1,0 +1,216 @@
+//! The two-choice tag index for a Rust service: building an image from a list, checking it, and
+//! looking up tags in it.
+//!
+//! The work is done by the proved functions behind the C boundary (`libboundary.a`); this crate
+//! lends them slices and takes their answers apart. Every function takes any bytes, and its answer
+//! depends on nothing but its arguments.
+//!
+//! ```
+//! let text = tag_index::list_text(2, 9, &[1, 2, 3])?;
+//! let mut buffer = [0; tag_index::LONGEST_IMAGE];
+//! let length = tag_index::build(&text, &mut buffer)?;
+//! let image = &buffer[..length];
+//! tag_index::check(image)?;
+//! assert_eq!(tag_index::lookup(image, 3)?, Some(2));
+//! assert_eq!(tag_index::lookup(image, 4)?, None);
+//! # Ok::<(), Box<dyn std::error::Error>>(())
+//! ```
+//!
+//! # Answers that document 01 does not allow
+//!
+//! The three functions panic if the library answers what document 01 does not allow, such as a
+//! number above 4,095 or a refusal that the operation does not have. The proved library never
+//! does; the panic tells of a wrong library, before its answer can do harm.
+
+#![deny(unsafe_code)]
+#![warn(missing_docs)]
+
+mod answer;
+mod list;
+pub mod raw;
+mod refusal;
+
+use std::error::Error;
+use std::fmt;
+
+pub use answer::UNKNOWN;
+pub use list::{list_text, TooWide, LARGEST_FIELD};
+pub use refusal::{PlaceKind, Reason, Refusal};
+
+/// The most tags of a list, N.
+pub const LARGEST_LIST: usize = 4_096;
+
+/// The most groups, B.
+pub const LARGEST_GROUP_COUNT: u32 = 512;
+
+/// The greatest seed limit, L.
+pub const LARGEST_LIMIT: u32 = 65_536;
+
+/// The most bytes of a list text that building examines; a longer one is refused with 5.
+pub const LONGEST_TEXT: usize = 65_527;
+
+/// The bytes of the longest image, 11 × (1 + 512 + 4,096). A buffer of this length is never too
+/// short.
+pub const LONGEST_IMAGE: usize = 50_699;
+
+/// The length of the image of so many tags in so many groups: 11 × (1 + B + N) bytes.
+///
+/// At most [`LONGEST_IMAGE`] for every list that building accepts; beyond the range of `usize` it
+/// stays at the greatest.
+///
+/// ```
+/// assert_eq!(tag_index::image_length(2, 3), 66);
+/// assert_eq!(tag_index::image_length(512, 4_096), tag_index::LONGEST_IMAGE);
+/// ```
+pub const fn image_length(groups: u32, count: usize) -> usize {
+    count
+        .saturating_add(groups as usize)
+        .saturating_add(1)
+        .saturating_mul(11)
+}
+
+/// Builds the image of a list text at the beginning of `image` and answers its length.
+///
+/// The bytes behind the image stay as they were; a refusal leaves all of them as they were.
+///
+/// ```
+/// use tag_index::Reason;
+/// let text = b"    1    1\n         1\n         3\n";
+/// let mut image = [0; 44];
+/// // No seed below L = 1 serves the group of 1 and 3.
+/// let refusal = tag_index::build(text, &mut image).unwrap_err();
+/// assert_eq!((refusal.reason, refusal.place), (Reason::NoSeed, 0));
+/// assert_eq!(image, [0; 44]);
+///
+/// let text = b"    1    2\n         1\n         3\n";
+/// assert_eq!(tag_index::build(text, &mut image)?, 44);
+/// # Ok::<(), tag_index::Refusal>(())
+/// ```
+///
+/// # Panics
+///
+/// If the library's answer is not one that document 01 allows; the proved library's always is.
+pub fn build(text: &[u8], image: &mut [u8]) -> Result<usize, Refusal> {
+    answer::built(raw::build(text, image), image.len())
+}
+
+/// Why no image came of a list of numbers.
+#[derive(Debug, Clone, Copy, PartialEq, Eq, Hash)]
+pub enum BuildError {
+    /// B or L has no place in a list text.
+    TooWide(TooWide),
+    /// Building refused the list.
+    Refused(Refusal),
+}
+
+impl fmt::Display for BuildError {
+    fn fmt(&self, f: &mut fmt::Formatter<'_>) -> fmt::Result {
+        match self {
+            BuildError::TooWide(error) => error.fmt(f),
+            BuildError::Refused(refusal) => refusal.fmt(f),
+        }
+    }
+}
+
+impl Error for BuildError {}
+
+impl From<TooWide> for BuildError {
+    fn from(error: TooWide) -> BuildError {
+        BuildError::TooWide(error)
+    }
+}
+
+impl From<Refusal> for BuildError {
+    fn from(refusal: Refusal) -> BuildError {
+        BuildError::Refused(refusal)
+    }
+}
+
+/// Builds the image of B groups, seed limit L and the tags at the beginning of `image`, as
+/// [`build`] does of their list text.
+///
+/// ```
+/// let mut image = [b'.'; 70];
+/// let length = tag_index::build_list(2, 9, &[1, 2, 3], &mut image)?;
+/// assert_eq!(length, 66);
+/// assert_eq!(&image[66..], b"....");
+/// # Ok::<(), tag_index::BuildError>(())
+/// ```
+///
+/// # Panics
+///
+/// As [`build`].
+pub fn build_list(
+    groups: u32,
+    limit: u32,
+    tags: &[u32],
+    image: &mut [u8],
+) -> Result<usize, BuildError> {
+    let text = list_text(groups, limit, tags)?;
+    Ok(build(&text, image)?)
+}
+
+/// The image of B groups, seed limit L and the tags, in memory of its own.
+///
+/// ```
+/// use tag_index::{BuildError, Reason, Refusal};
+/// let image = tag_index::image_of(2, 9, &[1, 2, 3])?;
+/// assert_eq!(image.len(), tag_index::image_length(2, 3));
+///
+/// let error = tag_index::image_of(1, 9, &[5, 5]).unwrap_err();
+/// let refusal = Refusal { reason: Reason::NotAscending, place: 1 };
+/// assert_eq!(error, BuildError::Refused(refusal));
+/// # Ok::<(), BuildError>(())
+/// ```
+///
+/// # Panics
+///
+/// As [`build`].
+pub fn image_of(groups: u32, limit: u32, tags: &[u32]) -> Result<Vec<u8>, BuildError> {
+    // A list that building accepts needs no more room than the longest image.
+    let mut image = vec![0; image_length(groups, tags.len()).min(LONGEST_IMAGE)];
+    let length = build_list(groups, limit, tags, &mut image)?;
+    image.truncate(length);
+    Ok(image)
+}
+
+/// Checks an image of any origin: its length, every line, every group and every slot.
+///
+/// In an accepted image each slot's tag is found there by [`lookup`], and no tag stands twice.
+///
+/// ```
+/// use tag_index::Reason;
+/// let mut image = tag_index::image_of(2, 9, &[1, 2, 3])?;
+/// tag_index::check(&image)?;
+/// image[0] = b'x';
+/// let refusal = tag_index::check(&image).unwrap_err();
+/// assert_eq!((refusal.reason, refusal.place), (Reason::MalformedLine, 0));
+/// # Ok::<(), tag_index::BuildError>(())
+/// ```
+///
+/// # Panics
+///
+/// If the library's answer is not one that document 01 allows; the proved library's always is.
+pub fn check(image: &[u8]) -> Result<(), Refusal> {
+    answer::checked(raw::check(image))
+}
+
+/// Looks up a tag: its number, 0 to N - 1, or nothing if the image does not have it.
+///
+/// The image need not be checked before. The answer depends on its length and on five lines at
+/// most, and a fault in one of these is refused.
+///
+/// ```
+/// let image = tag_index::image_of(2, 9, &[1, 2, 3])?;
+/// assert_eq!(tag_index::lookup(&image, 1)?, Some(1));
+/// assert_eq!(tag_index::lookup(&image, 7)?, None);
+/// assert!(tag_index::lookup(&image[..65], 1).is_err());
+/// # Ok::<(), tag_index::BuildError>(())
+/// ```
+///
+/// # Panics
+///
+/// If the library's answer is not one that document 01 allows; the proved library's always is.
+pub fn lookup(image: &[u8], tag: u32) -> Result<Option<u32>, Refusal> {
+    answer::looked_up(raw::lookup(image, tag))
+}

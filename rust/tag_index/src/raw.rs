@@ -1,0 +1,61 @@
+//! The three functions of the C boundary, and a safe function over each that answers its 64-bit
+//! number as it is. All `unsafe` of this crate stands here.
+//!
+//! Each function takes any bytes and any lengths, and reads and writes only inside the ranges
+//! given: that is what is proved of them. What the proofs leave to the caller is that a pointer
+//! and a length are a valid range, and that the range written overlaps no other. A slice is such
+//! a range, and `&mut` is alone.
+
+#![allow(unsafe_code)]
+
+mod c {
+    extern "C" {
+        // Declared as in include/tag_index.h; `usize` is C's `size_t`.
+        pub fn tag_index_build(
+            text: *const u8,
+            text_length: usize,
+            image: *mut u8,
+            image_length: usize,
+        ) -> u64;
+        pub fn tag_index_check(image: *const u8, image_length: usize) -> u64;
+        pub fn tag_index_lookup(image: *const u8, image_length: usize, tag: u32) -> u64;
+    }
+}
+
+/// Building's answer: the image's length, or refusal number × 2^32 + place.
+///
+/// ```
+/// let mut image = [0; 22];
+/// assert_eq!(tag_index::raw::build(b"    1    1\n", &mut image), 22);
+/// assert_eq!(tag_index::raw::build(b"    1    0\n", &mut image), 4 << 32);
+/// ```
+pub fn build(text: &[u8], image: &mut [u8]) -> u64 {
+    // SAFETY: both pointers and lengths come from slices that live through the call; `image` is
+    // borrowed for writing, so `text` does not overlap it.
+    unsafe { c::tag_index_build(text.as_ptr(), text.len(), image.as_mut_ptr(), image.len()) }
+}
+
+/// Checking's answer: 0 if accepted, or refusal number × 2^32 + place.
+///
+/// ```
+/// assert_eq!(tag_index::raw::check(b"    0    1\n    0    0\n"), 0);
+/// assert_eq!(tag_index::raw::check(b"    0    1\n    1    0\n"), 13 << 32);
+/// ```
+pub fn check(image: &[u8]) -> u64 {
+    // SAFETY: pointer and length come from a slice that lives through the call, and the function
+    // only reads.
+    unsafe { c::tag_index_check(image.as_ptr(), image.len()) }
+}
+
+/// Lookup's answer: the tag's number, 4,294,967,295 for unknown, or refusal number × 2^32 + place.
+///
+/// ```
+/// let image = b"    0    1\n    0    0\n";
+/// assert_eq!(tag_index::raw::lookup(image, 7), tag_index::UNKNOWN);
+/// assert_eq!(tag_index::raw::lookup(&image[..10], 7), 11 << 32);
+/// ```
+pub fn lookup(image: &[u8], tag: u32) -> u64 {
+    // SAFETY: pointer and length come from a slice that lives through the call, and the function
+    // only reads.
+    unsafe { c::tag_index_lookup(image.as_ptr(), image.len(), tag) }
+}

@@ -1,0 +1,106 @@
+//! The whole case of document 01 through the binding, the refusals that a service meets first,
+//! and the words in which each refusal is said.
+
+use tag_index::{BuildError, Reason, Refusal, TooWide};
+
+const TEXT: &[u8] = b"    2    9\n         1\n         2\n         3\n";
+const IMAGE: &[u8] = b"    3    2\n    0    0\n    1    1\n         2\n         1\n         3\n";
+
+fn refusal(reason: Reason, place: u32) -> Refusal {
+    Refusal { reason, place }
+}
+
+#[test]
+fn the_whole_case_is_built_checked_and_looked_up() {
+    assert_eq!(tag_index::list_text(2, 9, &[1, 2, 3]).unwrap(), TEXT);
+    let mut buffer = [b'.'; 70];
+    assert_eq!(tag_index::build(TEXT, &mut buffer), Ok(66));
+    assert_eq!(&buffer[..66], IMAGE);
+    assert_eq!(&buffer[66..], b"....");
+    assert_eq!(tag_index::check(IMAGE), Ok(()));
+    let numbers = [0, 1, 2, 3, 4, u32::MAX].map(|tag| tag_index::lookup(IMAGE, tag).unwrap());
+    assert_eq!(numbers, [None, Some(1), Some(0), Some(2), None, None]);
+}
+
+#[test]
+fn a_buffer_one_byte_short_is_refused_and_left_alone() {
+    let mut buffer = [b'.'; 65];
+    let refused = tag_index::build(TEXT, &mut buffer);
+    assert_eq!(refused, Err(refusal(Reason::BufferTooShort, 0)));
+    assert_eq!(buffer, [b'.'; 65]);
+}
+
+#[test]
+fn empty_slices_are_refused() {
+    assert_eq!(
+        tag_index::build(b"", &mut []),
+        Err(refusal(Reason::MalformedList, 0))
+    );
+    assert_eq!(
+        tag_index::build(b"    1    1\n", &mut []),
+        Err(refusal(Reason::BufferTooShort, 0))
+    );
+    assert_eq!(tag_index::check(b""), Err(refusal(Reason::WrongLength, 0)));
+    assert_eq!(
+        tag_index::lookup(b"", 0),
+        Err(refusal(Reason::WrongLength, 0))
+    );
+}
+
+#[test]
+fn a_list_that_no_text_can_say_is_an_error() {
+    for (groups, limit, error) in [
+        (100_000, 9, TooWide::Groups(100_000)),
+        (u32::MAX, u32::MAX, TooWide::Groups(u32::MAX)),
+        (2, 100_000, TooWide::Limit(100_000)),
+    ] {
+        assert_eq!(
+            tag_index::image_of(groups, limit, &[1]),
+            Err(BuildError::TooWide(error))
+        );
+        assert!(error.to_string().contains("at most 99999"));
+    }
+    // The widest that it can say are refused by building.
+    for (groups, limit, reason) in [
+        (99_999, 99_999, Reason::GroupCountOutOfRange),
+        (1, 99_999, Reason::LimitOutOfRange),
+    ] {
+        assert_eq!(
+            tag_index::image_of(groups, limit, &[1]),
+            Err(BuildError::Refused(refusal(reason, 0)))
+        );
+    }
+}
+
+#[test]
+fn too_many_tags_are_refused_whatever_their_number() {
+    for count in [4_097, 5_957, 20_000] {
+        let tags: Vec<u32> = (0..count).collect();
+        assert_eq!(
+            tag_index::image_of(512, 9, &tags),
+            Err(BuildError::Refused(refusal(Reason::TooManyTags, 0)))
+        );
+    }
+}
+
+#[test]
+fn lengths_do_not_wrap() {
+    assert_eq!(tag_index::image_length(1, 0), 22);
+    assert_eq!(tag_index::image_length(u32::MAX, usize::MAX), usize::MAX);
+}
+
+#[test]
+fn a_refusal_says_its_number_and_names_its_place() {
+    for (index, reason) in Reason::ALL.into_iter().enumerate() {
+        assert_eq!(reason.number() as usize, index + 1);
+        assert_eq!(Reason::from_number(reason.number()), Some(reason));
+        let said = refusal(reason, 321).to_string();
+        assert!(said.starts_with(&format!("refusal {}: ", index + 1)));
+        assert_eq!(
+            said.contains("321"),
+            reason.place_kind().is_some(),
+            "{said}"
+        );
+    }
+    assert_eq!(Reason::from_number(0), None);
+}
