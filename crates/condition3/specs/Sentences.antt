@@ -1,93 +1,157 @@
--- The buyer's sentences of Condition 3, written out and derived from the record, one for each of its parts. Assumes nothing.
+-- The buyer's sentences of Condition 3, derived from the record, one for each of its fields. They are written out from the definitions
+-- and use none of the record's names but its own. Assumes nothing.
 use mathlib.Core.Path.{_≡_, refl, sym, _∙_}
 use mathlib.Core.Logic.{_↔_}
 use mathlib.Core.Bool.{Bool, true, false, cond}
 use mathlib.Core.List.{List}
-use Prim.Native.Nat.{ℕ, suc, _+_, _*_, _<_}
+use Prim.Native.Nat.{ℕ, suc, _+_, _*_, _≤_, _<_}
 use native.Mathlib.Omega.{arith}
-use lib.ListN.{length, take}
+use lib.ListN.{length, getD, take}
 use Rattle.refusal.specs.Limits.{tagEnd}
 use Rattle.refusal.specs.Outcome.{Outcome, answered, refused}
 use Rattle.text.specs.Line.{lineAt, pairLine}
+use Rattle.hash.specs.Formula.{groupOf}
 use Rattle.filling.specs.Places.{occurs}
 use Rattle.filling.specs.Filling.{Fills}
+use Rattle.filling.specs.Least.{NotAfter}
 use Rattle.group.specs.Group.{groupUnder}
 use Rattle.image.specs.Lookup.{Found, number, unknown, lookupOf}
-use Rattle.building.specs.Members.{members}
-use Rattle.building.specs.Number.{numberOf}
-use Rattle.condition3.specs.Condition3.{HasSeed, LowestWithout, EarlierChecks, TagOf, Accepted, Condition3}
+use Rattle.building.specs.Members.{members, startOf}
+use Rattle.building.specs.Number.{placeIn, numberOf}
+use Rattle.condition3.specs.Condition3.{Condition3, Accepted, EarlierChecks}
 
--- The seed in a group's line of the written image, under which no lower seed gives the tags places of their own.
-pub record LineSeed (tags : List ℕ) (groups g : ℕ) (image : List ℕ) : Type 0 where
-  pub start : ℕ
-  pub seed : ℕ
-  pub line : lineAt (suc g) image ≡ pairLine start seed
-  pub lower : (s : ℕ) → s < seed → (choices : List Bool) → Fills (groupUnder (members groups g tags) s) choices → ⊥
+-- A sequence of choices that "makes a seed … give each of its tags a place of its own"; and that there is none.
+abbrev pub Places : List ℕ → ℕ → ℕ → ℕ → List Bool → Type 0
+Places tags groups g s choices = Fills (groupUnder (members groups g tags) s) choices
 
--- A number for every tag, and lookup answers it.
-pub record Numbering (tags image : List ℕ) : Type 0 where
-  pub numberFor : ℕ → ℕ
-  pub below : (t : ℕ) → occurs t tags ≡ true → numberFor t < length tags
-  pub once : (j : ℕ) → j < length tags → TagOf tags numberFor j
-  pub looked : (t : ℕ) → t < tagEnd → lookupOf image t ≡ cond (occurs t tags) (answered (number (numberFor t))) (answered unknown)
+abbrev pub Nothing : List ℕ → ℕ → ℕ → ℕ → Type 0
+Nothing tags groups g s = (choices : List Bool) → Places tags groups g s choices → ⊥
+
+-- A seed below the limit "under which such a sequence exists".
+abbrev pub Seed : List ℕ → ℕ → ℕ → ℕ → Type 0
+Seed tags groups limit g = (s : ℕ) × (s < limit) × ((choices : List Bool) × Places tags groups g s choices)
+
+-- The seeds and sequences of an accepted building: those in the lines of the written image.
+pub record Taken (tags : List ℕ) (groups : ℕ) (image : List ℕ) : Type 0 where
+  pub seed : ℕ → ℕ
+  pub choices : ℕ → List Bool
+  pub line : (g : ℕ) → g < groups → lineAt (suc g) image ≡ pairLine (startOf groups g tags) (seed g)
 
 module _ {tags : List ℕ} {groups limit room : ℕ} {answer : Outcome ℕ} {after : List ℕ} (c : Condition3 tags groups limit room answer after) where
-  -- "No sequence of choices whatever … makes a seed that the builder passed over for that group give each of its tags a place of its
-  -- own": passed over is what is lower than the seed in the group's line,
-  pub passed-over-accepted : (size : ℕ) → answer ≡ answered size → (g : ℕ) → g < groups → LineSeed tags groups g (take size after)
-  passed-over-accepted size e g lt =
-      let a = c .accepted size e in
-      record { start = _; seed = a .seed g; line = a .line g lt; lower = a .passed-over g lt }
+  -- What holds of an accepted building. `size` is its answer, and the written image the buffer's first bytes, as many.
+  module _ (size : ℕ) (e : answer ≡ answered size) where
+    accepted : Accepted tags groups limit after size
+    accepted = c .accepted size e
 
-  -- "or, where refusal 7 names the group, lower than L".
-  pub passed-over-refused : (g : ℕ) → answer ≡ refused 7 g → (s : ℕ) → s < limit
-      → (choices : List Bool) → Fills (groupUnder (members groups g tags) s) choices → ⊥
+    -- "the answer is its length": 11 × (1 + B + N).
+    pub length-answered : size ≡ 11 * (1 + groups + length tags)
+    length-answered = accepted .whole
+
+    -- "the seed in the group's line of the written image"
+    pub taken : Taken tags groups (take size after)
+    taken = record { seed = accepted .seed; choices = accepted .choices; line = accepted .line }
+
+    -- is one of "the seeds tried",
+    pub seed-tried : (g : ℕ) → g < groups → (taken .seed) g < limit
+    unfolding taken
+    seed-tried = accepted .below-limit
+
+    -- and the sequence taken gives each tag a place of its own,
+    pub sequence-places : (g : ℕ) → g < groups → Places tags groups g ((taken .seed) g) ((taken .choices) g)
+    unfolding taken
+    sequence-places = accepted .fills
+
+    -- "Among filling sequences the least is taken".
+    pub sequence-least : (g : ℕ) → g < groups → (other : List Bool) → Places tags groups g ((taken .seed) g) other → NotAfter ((taken .choices) g) other
+    unfolding taken
+    sequence-least = accepted .least
+
+    -- "No sequence of choices whatever … makes a seed that the builder passed over for that group give each of its tags a place of its
+    -- own": passed over is what is lower than the seed in the group's line,
+    pub passed-over-accepted : (g : ℕ) → g < groups → (s : ℕ) → s < (taken .seed) g → Nothing tags groups g s
+    unfolding taken
+    passed-over-accepted = accepted .passed-over
+
+    -- A tag's number: "its group's start plus its place", under the seed and the sequence taken.
+    pub numberFor : ℕ → ℕ
+    numberFor t =
+        let g = groupOf groups t in
+        startOf groups g tags + placeIn (members groups g tags) ((taken .seed) g) ((taken .choices) g) t
+
+    -- "each of its tags has exactly one of" the numbers below N,
+    pub has-number : (t : ℕ) → occurs t tags ≡ true → numberFor t < length tags
+    unfolding taken numberFor numberOf
+    has-number = accepted .number-below
+
+    -- "each number below N belongs to exactly one of its tags";
+    pub belongs-to-one : (j : ℕ) → j < length tags
+        → (t : ℕ) × (occurs t tags ≡ true) × (numberFor t ≡ j) × ((u : ℕ) → occurs u tags ≡ true → numberFor u ≡ j → u ≡ t)
+    unfolding taken numberFor numberOf
+    belongs-to-one j lt = let one = accepted .number-once j lt in (one .tag, one .listed, one .number-is, one .only)
+
+    -- "and for every tag there is, lookup in the written image answers the tag's number if it is in the list,
+    pub listed-found : (t : ℕ) → t < tagEnd → occurs t tags ≡ true → lookupOf (take size after) t ≡ answered (number (numberFor t))
+    unfolding taken numberFor numberOf
+    listed-found = accepted .listed
+
+    -- and unknown if it is not."
+    pub unlisted-unknown : (t : ℕ) → t < tagEnd → occurs t tags ≡ false → lookupOf (take size after) t ≡ answered unknown
+    unlisted-unknown = accepted .unlisted
+
+    -- "If two tags came to one place, a blend would be computed with another tank's sulphur": lookup never gives one number for two.
+    pub never-two : (t u j : ℕ) → t < tagEnd → u < tagEnd
+        → lookupOf (take size after) t ≡ answered (number j) → lookupOf (take size after) u ≡ answered (number j) → t ≡ u
+    never-two t u j wt wu ft fu =
+        let (mt, nt) = holder t wt ft in
+        let (mu, nu) = holder u wu fu in
+        let below : j < length tags = rw nt at (has-number t mt) in
+        let one = belongs-to-one j below in
+        one .3 t mt nt ∙ sym (one .3 u mu nu)
+      where
+        holder : (t : ℕ) → t < tagEnd → lookupOf (take size after) t ≡ answered (number j) → (occurs t tags ≡ true) × (numberFor t ≡ j)
+        holder t word found = go (occurs t tags) refl
+          where
+            go : (b : Bool) → occurs t tags ≡ b → (occurs t tags ≡ true) × (numberFor t ≡ j)
+            go true m = let l = listed-found t word m in (m, cc)
+            go false m = let l = unlisted-unknown t word m in absurd (let z : _≡_ {A = ℕ} 0 1 = cc in omega arith)
+
+  -- "or, where refusal 7 names the group, lower than L": every seed below the limit is passed over then.
+  pub passed-over-refused : (g : ℕ) → answer ≡ refused 7 g → (s : ℕ) → s < limit → Nothing tags groups g s
   passed-over-refused = c .no-seed
 
-  -- "each number below N belongs to exactly one of its tags and each of its tags has exactly one of them; and for every tag there is,
-  -- lookup in the written image answers the tag's number if it is in the list, and unknown if it is not."
-  pub numbered : (size : ℕ) → answer ≡ answered size → Numbering tags (take size after)
-  numbered size e =
-      record { numberFor = numberFor; below = a .number-below; once = a .number-once; looked = λ t word. go t word (occurs t tags) refl }
-    where
-      a : Accepted tags groups limit after size
-      a = c .accepted size e
+  -- "A list that passes all earlier checks": 8, 4, 5, 6, 9 and 10.
+  module _ (groups-legal : (1 ≤ groups) × (groups ≤ 512)) (limit-legal : (1 ≤ limit) × (limit ≤ 65536)) (count-legal : length tags ≤ 4096)
+      (ascending : (i : ℕ) → suc i < length tags → getD tags i 0 < getD tags (suc i) 0)
+      (fits : 11 * (1 + groups + length tags) ≤ room)
+      (small : (g : ℕ) → g < groups → length (members groups g tags) ≤ 24) where
+    checks : EarlierChecks tags groups limit room
+    checks = record {
+      groups-legal = groups-legal;
+      limit-legal = limit-legal;
+      count-legal = count-legal;
+      ascending = ascending;
+      fits = fits;
+      groups-small = small;
+    }
 
-      numberFor : ℕ → ℕ
-      numberFor = numberOf groups tags (a .seed) (a .choices)
+    -- "is refused for want of a seed exactly when some group has no seed below the limit under which such a sequence exists, and the
+    -- refusal names the lowest such group":
+    pub refused-exactly : (g : ℕ) → (answer ≡ refused 7 g)
+        ↔ ((g < groups) × ((s : ℕ) → s < limit → Nothing tags groups g s) × ((h : ℕ) → h < g → Seed tags groups limit h))
+    refused-exactly g = (
+      λ is.
+          let low = (c .refused-7 checks g) .0 is in
+          (low .group, low .without, λ h lt. let has = low .lower h lt in (has .seed, has .below, (has .choices, has .fills))),
+      λ low.
+          (c .refused-7 checks g) .1
+          (record {
+            group = low .0;
+            without = low .1;
+            lower = λ h lt. let has = low .2 h lt in record { seed = has .0; below = has .1; choices = has .2 .0; fills = has .2 .1 };
+          }),
+    )
 
-      go : (t : ℕ) → t < tagEnd → (b : Bool) → occurs t tags ≡ b
-          → lookupOf (take size after) t ≡ cond (occurs t tags) (answered (number (numberFor t))) (answered unknown)
-      go t word true m = rw m (a .listed t word m)
-      go t word false m = rw m (a .unlisted t word m)
-
-  -- "If two tags came to one place, a blend would be computed with another tank's sulphur": lookup never gives one number for two.
-  pub never-two : (size : ℕ) → answer ≡ answered size → (t u j : ℕ) → t < tagEnd → u < tagEnd
-      → lookupOf (take size after) t ≡ answered (number j) → lookupOf (take size after) u ≡ answered (number j) → t ≡ u
-  never-two size e t u j wt wu ft fu =
-      let (mt, nt) = holder t wt ft in
-      let (mu, nu) = holder u wu fu in
-      let below : j < length tags = rw nt at (a .number-below t mt) in
-      let one = a .number-once j below in
-      one .only t mt nt ∙ sym (one .only u mu nu)
-    where
-      a : Accepted tags groups limit after size
-      a = c .accepted size e
-
-      holder : (t : ℕ) → t < tagEnd → lookupOf (take size after) t ≡ answered (number j)
-          → (occurs t tags ≡ true) × (numberOf groups tags (a .seed) (a .choices) t ≡ j)
-      holder t word found = go (occurs t tags) refl
-        where
-          go : (b : Bool) → occurs t tags ≡ b → (occurs t tags ≡ true) × (numberOf groups tags (a .seed) (a .choices) t ≡ j)
-          go true m = let l = a .listed t word m in (m, cc)
-          go false m = let l = a .unlisted t word m in absurd (let z : _≡_ {A = ℕ} 0 1 = cc in omega arith)
-
-  -- "A list that passes all earlier checks is refused for want of a seed exactly when some group has no seed below the limit under
-  -- which such a sequence exists, and the refusal names the lowest such group."
-  pub refused-exactly : EarlierChecks tags groups limit room → (g : ℕ) → (answer ≡ refused 7 g) ↔ LowestWithout groups tags limit g
-  refused-exactly = c .refused-7
-
-  -- Such a list is refused for no other reason, and accepted with the length of its image.
-  pub accepted-otherwise : EarlierChecks tags groups limit room → ((g : ℕ) → LowestWithout groups tags limit g → ⊥)
-      → answer ≡ answered (11 * (1 + groups + length tags))
-  accepted-otherwise = c .otherwise
+    -- where every group has one, it is accepted.
+    pub accepted-otherwise : ((g : ℕ) → g < groups → Seed tags groups limit g) → answer ≡ answered (11 * (1 + groups + length tags))
+    accepted-otherwise every =
+        c .otherwise checks (λ g low. let has = every g (low .group) in low .without (has .0) (has .1) (has .2 .0) (has .2 .1))

@@ -37,8 +37,8 @@ use Rattle.building.specs.Number.{numberOf, tagNumbered}
 use Rattle.building.specs.NumberLaws.{ImageOf, number-below, number-apart, number-onto, AllFill, ownPlace, all-placed, tagNumbered-is}
 use Rattle.building.specs.Building.{sheetOf, seedTaken, choicesTaken, imageOf, tooLarge, seedless, buildingChecks, buildingOf, written, bufferAfter}
 use Rattle.building.specs.BuildingLaws.{image-length, seed-least, taken-fill}
-use Rattle.condition3.specs.Built.{Reads, InRange, reads-back, built-sound, built-listed, built-unlisted}
+use Rattle.built.specs.Built.{Reads, InRange, reads-back, built-sound, built-listed, built-unlisted}
 use Rattle.condition3.specs.Condition3.{GroupFills, NothingFills, HasSeed, LowestWithout, EarlierChecks, TagOf, Accepted, Condition3}
 
 module _ (tags : List ℕ) (groups limit : ℕ) where
   unseeded : (g : ℕ) → seedless groups tags limit g ≡ true → (s : ℕ) → s < limit → NothingFills groups tags g s
