@@ -1,4 +1,6 @@
 // The operation "building": the image of a list, written at the beginning of a buffer.
+mod worked;
+
 use refusal::First;
 use refusal::Reason;
 use refusal::Refusal;
