@@ -1,6 +1,9 @@
 -- What the index printer writes. Assumes nothing.
 use Prim.Native.Nat.{ℕ}
-use mathlib.Core.List.{List}
+use mathlib.Core.Bool.{cond}
+use mathlib.Core.List.{List, _++_}
+use lib.Dec.{ltb}
+use lib.ListN.{length, drop}
 use Rattle.refusal.specs.Limits.{tagsMax, groupsMax}
 use Rattle.refusal.specs.Outcome.{Outcome, answered, refused, answeredBy, followedBy}
 use Rattle.text.specs.Line.{pairLine}
@@ -24,3 +27,15 @@ outputOf (refused number place) = pairLine number place
 -- place 0, unexamined."
 unfoldable pub printed : List ℕ → List ℕ
 printed text = outputOf (followedBy (listFromText text) imageOfList)
+
+-- "The length is … at most 50,699 bytes": that of 4,096 tags in 512 groups.
+unfoldable pub longestImage : ℕ
+longestImage = imageLength groupsMax tagsMax
+
+-- What is written at the beginning of an output of `room` bytes, and how many bytes. An output that is shorter than the longest image
+-- gets nothing.
+unfoldable pub printedCount : List ℕ → ℕ → ℕ
+printedCount text room = cond (ltb room longestImage) 0 (length (printed text))
+
+unfoldable pub printedInto : List ℕ → List ℕ → List ℕ
+printedInto text before = cond (ltb (length before) longestImage) before (printed text ++ drop (length (printed text)) before)

@@ -5,6 +5,7 @@
 //! them in the same form. A program that has no file here is a fault: a new one takes a file and a
 //! row of `PROGRAMS`.
 
+mod boundary;
 mod building;
 mod exhausted;
 mod image;
@@ -12,6 +13,7 @@ mod leaf;
 mod list;
 mod long;
 mod placing;
+mod printing;
 mod text;
 
 use std::fs;
@@ -29,6 +31,8 @@ const PROGRAMS: &[Program] = &[
     ("cases_image", image::write),
     ("cases_list", list::write),
     ("cases_long", long::write),
+    ("cases_printing", printing::write),
+    ("cases_boundary", boundary::write),
 ];
 
 /// What a program writes, as the crate `report` lets the proved programs write it.

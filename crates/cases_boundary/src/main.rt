@@ -1,0 +1,121 @@
+// Runs the three functions of the C boundary: the whole case of document 01, and refusals of each operation. Each answer is printed
+// as the number that C gets.
+
+// Prints the case's name and an answer.
+fn answer(name: &[u8], r: u64) {
+    report::words(name);
+    report::words(b": ");
+    report::number(r);
+    report::words(b"\n");
+}
+
+// Builds from a text into a buffer of 77 bytes, and prints the answer and the buffer.
+fn build(name: &[u8], text: &[u8]) {
+    let mut image = [b'.'; 77];
+    answer(name, boundary::tag_index_build(text, &mut image));
+    report::words(&image);
+    report::words(b"\n");
+}
+
+// Prints what checking answers, and lookups of the tags 1 to 4.
+fn image(name: &[u8], image: &[u8]) {
+    answer(name, boundary::tag_index_check(image));
+    answer(b"  lookup of 1", boundary::tag_index_lookup(image, 1));
+    answer(b"  lookup of 2", boundary::tag_index_lookup(image, 2));
+    answer(b"  lookup of 3", boundary::tag_index_lookup(image, 3));
+    answer(b"  lookup of 4", boundary::tag_index_lookup(image, 4));
+}
+
+// The whole case, and each refusal of building from a text that fits a line of this file.
+fn building() {
+    build(
+        b"whole case",
+        b"    2    9\n         1\n         2\n         3\n",
+    );
+    build(b"no bytes", b"");
+    build(
+        b"line 2 malformed",
+        b"    2    9\n         1\n        02\n         3\n",
+    );
+    build(b"B = 0", b"    0    9\n         1\n");
+    build(b"L = 0", b"    2    0\n         1\n");
+    build(
+        b"tag 2 after tag 3",
+        b"    2    9\n         1\n         3\n         2\n",
+    );
+    build(
+        b"buffer of 77 for an image of 88 bytes",
+        b"    2    9\n         1\n         2\n         3\n         4\n         5\n",
+    );
+    build(
+        b"a seed above 0 with L = 1",
+        b"    2    1\n         1\n         2\n         3\n",
+    );
+}
+
+// The longest text that is examined, with its last line malformed; and one byte more.
+fn long_texts() {
+    let mut image = [b'.'; 66];
+    let mut longest = [b' '; 65527];
+    number_lines(&mut longest);
+    answer(
+        b"5956 tags",
+        boundary::tag_index_build(&longest, &mut image),
+    );
+    longest[65526] = b' ';
+    answer(
+        b"last of 5957 lines malformed",
+        boundary::tag_index_build(&longest, &mut image),
+    );
+    let longer = [b' '; 65528];
+    answer(
+        b"65528 bytes",
+        boundary::tag_index_build(&longer, &mut image),
+    );
+}
+
+// Writes a list text over the whole buffer: B = 2, L = 9, and the tags 0, 1, 2, …, one a line, as many lines as there is room for.
+fn number_lines(text: &mut [u8]) {
+    if text.len() < 11 {
+        return;
+    }
+    text::write_pair_line(text, 0, 2, 9);
+    let mut at = 11;
+    let mut tag: u32 = 0;
+    while 11 <= text.len() - at {
+        text::write_tag_line(text, at, tag);
+        tag = std::num::wrapping_add_u32(tag, 1);
+        at += 11;
+    }
+}
+
+// The image of the whole case, and damaged ones: 11, 12, 13, 14 and 15.
+fn images() {
+    image(
+        b"whole image",
+        b"    3    2\n    0    0\n    1    1\n         2\n         1\n         3\n",
+    );
+    image(b"no bytes", b"");
+    image(
+        b"last slot malformed",
+        b"    3    2\n    0    0\n    1    1\n         2\n         1\n        03\n",
+    );
+    image(
+        b"start past N",
+        b"    3    2\n    0    0\n    4    1\n         2\n         1\n         3\n",
+    );
+    image(
+        b"tag of another group",
+        b"    3    2\n    0    0\n    1    1\n         3\n         1\n         3\n",
+    );
+    image(
+        b"tag twice",
+        b"    3    2\n    0    0\n    1    1\n         2\n         3\n         3\n",
+    );
+}
+
+fn main() {
+    building();
+    long_texts();
+    images();
+}

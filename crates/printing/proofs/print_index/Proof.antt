@@ -1,0 +1,83 @@
+-- `printing::print_index` meets its contract: in an output for the longest image 9 never comes, so that what building leaves is what is
+-- to be printed, and a refusal, which leaves the output as it was, is written as one line. Assumes nothing.
+use borrow.Author.Needs.{needs}
+use mathlib.Core.Path.{sym, _∙_, ap}
+use native.Mathlib.Omega.{arith}
+use Rattle.build.specs.Answer.{buildOutcome}
+use Rattle.from_text.specs.PlaceLaws.{textLines, place-below, from-text-place}
+use Rattle.printing.specs.PrintingLaws.{longest-is, printed-nothing, printed-built, printed-refused}
+use Rattle.printing.proofs.print_index.Statement.{statement}
+use Rattle.printing.proofs.print_index.Tie as tie
+
+returns : tie.Need-returns
+returns c =
+    let a = c .before .before .before .args in
+    printed-nothing (a .text .now) (a .out .now) (omega (arith, longest-is, c .if1 .taken))
+
+build-from-text-requires : tie.Need-build-from-text-requires
+build-from-text-requires c κs = search needs
+
+enum-known-size : tie.Need-enum-known-size
+enum-known-size c = search needs
+
+enum-known-refusal : tie.Need-enum-known-refusal
+enum-known-refusal c = search needs
+
+reason-number-requires : tie.Need-reason-number-requires
+reason-number-requires c κs = search needs
+
+cast-place : tie.Need-cast-place
+cast-place c =
+    let told = c .before .before .before in
+    let built = told .before .before .before .before in
+    let a = built .before .before .before .before .before .args in
+    let refused = sym (built .build-from-text .ensures .0) ∙ ap buildOutcome (told .refusal .given .1) in
+    omega (arith, place-below textLines (from-text-place (a .text .now) _) refused)
+
+write-pair-line-requires : tie.Need-write-pair-line-requires
+write-pair-line-requires c κs = search needs
+
+same-length : tie.Need-same-length
+same-length c = search needs
+
+returns-2 : tie.Need-returns-2
+returns-2 c =
+    let told = c .before in
+    let built = told .before .before .before .before in
+    let roomy = built .before .before in
+    let a = roomy .before .before .before .args in
+    let promised = built .build-from-text .ensures in
+    printed-built (a .text .now) (a .out .now) (omega (arith, longest-is, roomy .if1 .left))
+    (sym (promised .0) ∙ ap buildOutcome (told .size .given .1)) (promised .1 .0)
+
+same-length-2 : tie.Need-same-length-2
+same-length-2 c = search needs
+
+returns-3 : tie.Need-returns-3
+returns-3 c =
+    let line = c .before .before in
+    let numbered = line .before .before .before in
+    let told = numbered .before .before in
+    let built = told .before .before .before .before in
+    let roomy = built .before .before in
+    let a = roomy .before .before .before .args in
+    let promised = built .build-from-text .ensures in
+    printed-refused (a .text .now) (a .out .now) (omega (arith, longest-is, roomy .if1 .left))
+    (sym (promised .0) ∙ ap buildOutcome (told .refusal .given .1)) (promised .1 .0)
+    (rw (numbered .reason-number .ensures) at (line .write-pair-line .ensures))
+
+pub print-index-spec : {M : Type 1} → statement M
+print-index-spec =
+    tie.close
+    (tie.spec
+    returns
+    build-from-text-requires
+    enum-known-size
+    enum-known-refusal
+    reason-number-requires
+    cast-place
+    write-pair-line-requires
+    same-length
+    returns-2
+    same-length-2
+    returns-3)

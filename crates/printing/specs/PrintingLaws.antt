@@ -1,0 +1,120 @@
+-- What the printer writes, from what building from the text answers and leaves in an output that is long enough for every image.
+-- Assumes nothing.
+use mathlib.Core.Path.{_≡_, refl, sym, _∙_, ap}
+use mathlib.Core.Bool.{Bool, true, false}
+use mathlib.Core.List.{List, _++_}
+use Prim.Native.Nat.{ℕ, _≤_, _<_}
+use native.Mathlib.Omega.{arith}
+use lib.Dec.{ltb}
+use lib.ListN.{length, drop}
+use borrow.Author.Tests.{ltb-true, ltb-false, lt-ltb, le-ltb}
+use Rattle.refusal.specs.Limits.{tagsMax, groupsMax, limitMax, outside}
+use Rattle.refusal.specs.LimitsLaws.{inside}
+use Rattle.refusal.specs.Outcome.{Outcome, answered, refused, answeredBy, followedBy}
+use Rattle.refusal.specs.ChecksLaws.{inOrder-answered}
+use Rattle.text.specs.Line.{lineLength, pairLine}
+use Rattle.text.specs.LineLaws.{pairLine-length}
+use Rattle.list.specs.Reading.{Listed}
+use Rattle.image.specs.Sheet.{imageLength}
+use Rattle.image.specs.SheetLaws.{image-longest}
+use Rattle.building.specs.Building.{imageOf, buildingChecks, buildingOf}
+use Rattle.building.specs.BuildingLaws.{image-length, building-groups, building-limit, building-many, buffer-kept, buffer-written}
+use Rattle.building.specs.FromText.{listFromText, buildingFromText, bufferOfList, bufferFromText}
+use Rattle.printing.specs.Printing.{imageOfList, outputOf, printed, longestImage, printedCount, printedInto}
+
+-- "at most 50,699 bytes".
+pub longest-is : longestImage ≡ 50699
+unfolding longestImage imageLength
+longest-is = refl
+
+-- In every buffer that is long enough for the longest image building comes to the same: 9 never comes.
+pub building-roomy : (tags : List ℕ) (groups limit room : ℕ) → longestImage ≤ room
+    → buildingOf tags groups limit room ≡ buildingOf tags groups limit longestImage
+unfolding buildingOf buildingChecks
+building-roomy tags groups limit room enough =
+    go (outside 1 groupsMax groups) (outside 1 limitMax limit) (ltb tagsMax (length tags)) refl refl refl
+  where
+    go : (b d f : Bool) → outside 1 groupsMax groups ≡ b → outside 1 limitMax limit ≡ d → ltb tagsMax (length tags) ≡ f
+        → buildingOf tags groups limit room ≡ buildingOf tags groups limit longestImage
+    go true d f e e′ e″ = building-groups tags groups limit room e ∙ sym (building-groups tags groups limit longestImage e)
+    go false true f e e′ e″ = building-limit tags groups limit room e e′ ∙ sym (building-limit tags groups limit longestImage e e′)
+    go false false true e e′ e″ =
+        let many = ltb-true tagsMax (length tags) e″ in
+        building-many tags groups limit room e e′ many ∙ sym (building-many tags groups limit longestImage e e′ many)
+    go false false false e e′ e″ =
+        let most = image-longest groups (length tags) ((inside 1 groupsMax groups e) .1) (ltb-false tagsMax (length tags) e″) in
+        rw (
+          le-ltb room (imageLength groups (length tags)) (omega (arith, longest-is)),
+          le-ltb longestImage (imageLength groups (length tags)) (omega (arith, longest-is)),
+        )
+
+-- What an accepted building answers is the length of the image.
+size-is : (tags : List ℕ) (groups limit room : ℕ) {size : ℕ} → buildingOf tags groups limit room ≡ answered size
+    → length (imageOf groups tags limit) ≡ size
+unfolding buildingOf
+size-is tags groups limit room {size} e =
+    let last = (inOrder-answered (buildingChecks tags groups limit room) (answered (imageLength groups (length tags))) e) .1 in
+    let same : imageLength groups (length tags) ≡ size = cc in
+    image-length groups tags limit ∙ same
+
+-- The output and the buffer, by what is read from the text: building is accepted,
+module _ (before : List ℕ) (enough : longestImage ≤ length before) where
+  list-built : (o : Outcome Listed) {size : ℕ}
+      → followedBy o (λ listed. buildingOf (listed .tags) (listed .groups) (listed .limit) (length before)) ≡ answered size
+      → (length (outputOf (followedBy o imageOfList)) ≡ size)
+      × (bufferOfList o before ≡ outputOf (followedBy o imageOfList) ++ drop (length (outputOf (followedBy o imageOfList))) before)
+  unfolding followedBy imageOfList answeredBy outputOf bufferOfList longestImage
+  list-built (answered listed) e =
+      let tags = listed .tags in
+      let groups = listed .groups in
+      let limit = listed .limit in
+      let same = sym (building-roomy tags groups limit (length before) enough) ∙ e in
+      rw same (size-is tags groups limit (length before) e, buffer-written tags groups limit before e)
+  list-built (refused number place) e = absurd (let z : _≡_ {A = ℕ} 0 1 = cc in omega arith)
+
+  -- or refuses.
+  list-refused : (o : Outcome Listed) {number place : ℕ}
+      → followedBy o (λ listed. buildingOf (listed .tags) (listed .groups) (listed .limit) (length before)) ≡ refused number place
+      → (outputOf (followedBy o imageOfList) ≡ pairLine number place) × (bufferOfList o before ≡ before)
+  unfolding followedBy imageOfList answeredBy outputOf bufferOfList longestImage
+  list-refused (answered listed) e =
+      let tags = listed .tags in
+      let groups = listed .groups in
+      let limit = listed .limit in
+      let same = sym (building-roomy tags groups limit (length before) enough) ∙ e in
+      rw same (refl, buffer-kept tags groups limit before e)
+  list-refused (refused n p) e = (cc, refl)
+
+-- The answer, and the output.
+abbrev pub Printed : List ℕ → List ℕ → ℕ → List ℕ → Type 0
+Printed text before count after = (count ≡ printedCount text (length before)) × (after ≡ printedInto text before)
+
+module _ (text before : List ℕ) where
+  -- Into an output that is too short nothing is written.
+  pub printed-nothing : length before < longestImage → Printed text before 0 before
+  unfolding printedCount printedInto
+  printed-nothing short = rw (lt-ltb (length before) longestImage short) (refl, refl)
+
+  module _ (enough : longestImage ≤ length before) where
+    -- Another gets all that is to be printed.
+    printed-all : {count : ℕ} {after : List ℕ} → count ≡ length (printed text) → after ≡ printed text ++ drop (length (printed text)) before
+        → Printed text before count after
+    unfolding printedCount printedInto
+    printed-all e e′ = rw (le-ltb (length before) longestImage enough) (e, e′)
+
+    -- The image, as building left it.
+    pub printed-built : {size : ℕ} {after : List ℕ} → buildingFromText text (length before) ≡ answered size
+        → after ≡ bufferFromText text before → Printed text before size after
+    unfolding buildingFromText bufferFromText printed
+    printed-built e left =
+        let (size, bytes) = list-built before enough (listFromText text) e in
+        printed-all (sym size) (left ∙ bytes)
+
+    -- One line with the refusal, over what building left.
+    pub printed-refused : {number place : ℕ} {left after : List ℕ} → buildingFromText text (length before) ≡ refused number place
+        → left ≡ bufferFromText text before → after ≡ pairLine number place ++ drop lineLength left → Printed text before lineLength after
+    unfolding buildingFromText bufferFromText printed
+    printed-refused {number} {place} e kept line =
+        let (output, same) = list-refused before enough (listFromText text) e in
+        let long = ap length output ∙ pairLine-length number place in
+        printed-all (sym long) (line ∙ rw (kept ∙ same, long, output))

@@ -1,0 +1,87 @@
+//! The cases of `cases_boundary`: the 64-bit answers of the three functions, for the whole case and
+//! for refusals of each.
+
+use super::Output;
+
+pub fn write(output: &mut Output) {
+    let texts: [(&str, &[u8]); 8] = [
+        (
+            "whole case",
+            b"    2    9\n         1\n         2\n         3\n",
+        ),
+        ("no bytes", b""),
+        (
+            "line 2 malformed",
+            b"    2    9\n         1\n        02\n         3\n",
+        ),
+        ("B = 0", b"    0    9\n         1\n"),
+        ("L = 0", b"    2    0\n         1\n"),
+        (
+            "tag 2 after tag 3",
+            b"    2    9\n         1\n         3\n         2\n",
+        ),
+        (
+            "buffer of 77 for an image of 88 bytes",
+            b"    2    9\n         1\n         2\n         3\n         4\n         5\n",
+        ),
+        (
+            "a seed above 0 with L = 1",
+            b"    2    1\n         1\n         2\n         3\n",
+        ),
+    ];
+    for (name, text) in texts {
+        let mut image = [b'.'; 77];
+        let answer = model::answer_build(text, &mut image);
+        output.words(format!("{name}: {answer}\n"));
+        output.words(image);
+        output.words("\n");
+    }
+    long_texts(output);
+    images(output);
+}
+
+/// The longest text that is examined, with its last line well formed and not; and one byte more.
+fn long_texts(output: &mut Output) {
+    let mut longest = model::list_text(2, 9, &(0..5_956).collect::<Vec<u32>>());
+    let mut answer = |name: &str, text: &[u8]| {
+        let answer = model::answer_build(text, &mut [b'.'; 66]);
+        output.words(format!("{name}: {answer}\n"));
+    };
+    answer("5956 tags", &longest);
+    longest[65_526] = b' ';
+    answer("last of 5957 lines malformed", &longest);
+    answer("65528 bytes", &[b' '; 65_528]);
+}
+
+fn images(output: &mut Output) {
+    let images: [(&str, &[u8]); 6] = [
+        (
+            "whole image",
+            b"    3    2\n    0    0\n    1    1\n         2\n         1\n         3\n",
+        ),
+        ("no bytes", b""),
+        (
+            "last slot malformed",
+            b"    3    2\n    0    0\n    1    1\n         2\n         1\n        03\n",
+        ),
+        (
+            "start past N",
+            b"    3    2\n    0    0\n    4    1\n         2\n         1\n         3\n",
+        ),
+        (
+            "tag of another group",
+            b"    3    2\n    0    0\n    1    1\n         3\n         1\n         3\n",
+        ),
+        (
+            "tag twice",
+            b"    3    2\n    0    0\n    1    1\n         2\n         3\n         3\n",
+        ),
+    ];
+    for (name, image) in images {
+        output.words(format!("{name}: {}\n", model::answer_check(image)));
+        for tag in 1..=4 {
+            let answer = model::answer_lookup(image, tag);
+            output.words(format!("  lookup of {tag}: {answer}\n"));
+        }
+    }
+}
