@@ -10,7 +10,7 @@ use native.Mathlib.Omega.{arith}
 use lib.Dec.{ltb}
 use borrow.Author.Tests.{ltb-true, ltb-false}
 use Rattle.bits.specs.Bit.{setBit}
-use Rattle.filling.specs.Weight.{keyWeight}
+use Rattle.filling.specs.Weight.{keyWeight, choiceWeight, total}
 use Rattle.filling.specs.Insertion.{Lightest, NoneWith, Occupies, Unoccupied, Insertion}
 use Rattle.filling.specs.InsertionLaws.{insertion-start, insertion-turn, insertion-done, insertion-stuck, lighter-lightest, only-lightest, neither-separate, lightest-same}
 use Rattle.insertion.specs.Entry.{entryOf}
@@ -105,6 +105,19 @@ module _ (places : List ℕ) where
         lightest-up b (light .below)
         (only-lightest (entryOf places) keyWeight k true (choiceIn b) (light .lightest) (first-none first))
     second-stays Nothing first second = neither-separate (entryOf places) k (first-none first) (second-none second)
+
+    -- Where the first moved no key, its word stays: what is lighter would be lighter without key k.
+    pub unmoved-stays : Lightest (entryOf places) keyWeight k (choiceIn word) → InsertedIs places k word (Word word)
+        → WithKeyIs places k (Word word)
+    unfolding total choiceWeight
+    unmoved-stays light first =
+        let own = first-lightest first in
+        lightest-up word (own .below) (record {
+          separate = own .lightest .separate;
+          lightest = λ f apart.
+              let before = light .lightest f (λ i j li lj same. apart i j (omega arith) (omega arith) same) in
+              rw (choice-past k word below) (omega (arith, before));
+        })
 
     -- Where the second has none, that of the first stays.
     pub first-stays : (a : ℕ) → InsertedIs places k word (Word a) → InsertedIs places k (setBit word k) Nothing

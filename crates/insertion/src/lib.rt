@@ -32,12 +32,14 @@ pub fn with_key(places: &[usize], word: u32, k: u32) -> Inserted
     requires { ⌜ (2 * k + 1 < length (now places)) × (k < 32) × LightestWord (now places) k word ⌝ }
     ensures answer { λ r. ⌜ WithKeyIs (now (places .entry)) k r ⌝ }
 {
-    let first = insert(places, word, k);
-    let second = insert(places, bits::with_bit(word, k), k);
-    let Inserted::Word(a) = first else {
-        return second;
+    let Inserted::Word(a) = insert(places, word, k) else {
+        return insert(places, bits::with_bit(word, k), k);
     };
-    let Inserted::Word(b) = second else {
+    // Where no key had to move, nothing is lighter.
+    if a == word {
+        return Inserted::Word(a);
+    }
+    let Inserted::Word(b) = insert(places, bits::with_bit(word, k), k) else {
         return Inserted::Word(a);
     };
     Inserted::Word(lighter(a, b, k + 1))

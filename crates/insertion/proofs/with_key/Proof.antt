@@ -1,8 +1,9 @@
--- `insertion::with_key` meets its contract: the two insertions give the lightest words with either choice of key k, and
--- the lighter of them stays. Assumes nothing.
-use borrow.Author.Needs.{needs}
+-- `insertion::with_key` meets its contract: the first insertion's word stays where it moved no key; otherwise the two insertions give
+-- the lightest words with either choice of key k, and the lighter of them stays. Assumes nothing.
+use mathlib.Core.Path.{_≡_, sym, _∙_}
 use Rattle.insertion.specs.WordBitsLaws.{word-grown, set-grown}
-use Rattle.insertion.specs.InsertedLaws.{set-lightest, second-stays, first-stays, lighter-stays}
+use Rattle.insertion.specs.InsertedLaws.{set-lightest, second-stays, unmoved-stays, first-stays, lighter-stays}
+use borrow.Author.Needs.{needs}
 use Rattle.insertion.proofs.with_key.Statement.{statement}
 use Rattle.insertion.proofs.with_key.Tie as tie
 
@@ -11,42 +12,61 @@ insert-requires c κs =
     let pre = c .before .pre in
     ((pre .0, pre .1, word-grown _ _ (pre .2 .below)), pre .2 .lightest)
 
+enum-known-a : tie.Need-enum-known-a
+enum-known-a c = search needs
+
+enum-told : tie.Need-enum-told
+enum-told c = search needs
+
 with-bit-requires : tie.Need-with-bit-requires
 with-bit-requires c κs = search needs
 
 insert-requires-2 : tie.Need-insert-requires-2
 insert-requires-2 c κs =
-    let pre = c .before .before .before .pre in
+    let pre = c .before .before .before .before .before .pre in
     rw (c .with-bit .ensures) ((pre .0, pre .1, set-grown _ _ (pre .2 .below)), set-lightest _ _ _ (pre .2 .lightest))
-
-enum-known-first : tie.Need-enum-known-first
-enum-known-first c = search needs
-
-enum-told : tie.Need-enum-told
-enum-told c = search needs
 
 returns : tie.Need-returns
 returns c =
-    let both = c .before .before in
-    let start = both .before .before .before .before in
-    let first = rw (c .enum-told .given .1) at (both .before .before .insert .ensures) in
-    let second = rw (both .before .with-bit .ensures) at (both .insert2 .ensures) in
+    let told = c .before .before in
+    let inserted = told .before .before in
+    let start = inserted .before .before in
+    let first = rw (told .enum-told .given .1) at (inserted .insert .ensures) in
+    let second = rw (c .before .with-bit .ensures) at (c .insert2 .ensures) in
     let a = start .args in
-    second-stays (a .places .now) (a .k) (a .word) (start .pre .2 .below) (both .insert2 .result) first second
+    second-stays (a .places .now) (a .k) (a .word) (start .pre .2 .below) (c .insert2 .result) first second
 
-enum-known-second : tie.Need-enum-known-second
-enum-known-second c = search needs
+returns-2 : tie.Need-returns-2
+returns-2 c =
+    let known = c .before .before in
+    let inserted = known .before .before in
+    let start = inserted .before .before in
+    let first = rw (known .a .given .1, c .if1 .taken) at (inserted .insert .ensures) in
+    let a = start .args in
+    rw (c .if1 .taken) (unmoved-stays (a .places .now) (a .k) (a .word) (start .pre .2 .below) (start .pre .2 .lightest) first)
+
+with-bit-requires-2 : tie.Need-with-bit-requires-2
+with-bit-requires-2 c κs = search needs
+
+insert-requires-3 : tie.Need-insert-requires-3
+insert-requires-3 c κs =
+    let pre = c .before .before .before .before .before .before .before .pre in
+    rw (c .with-bit2 .ensures) ((pre .0, pre .1, set-grown _ _ (pre .2 .below)), set-lightest _ _ _ (pre .2 .lightest))
+
+enum-known-b : tie.Need-enum-known-b
+enum-known-b c = search needs
 
 enum-told-2 : tie.Need-enum-told-2
 enum-told-2 c = search needs
 
-returns-2 : tie.Need-returns-2
-returns-2 c =
-    let known = c .before .before .before in
-    let both = known .before .before in
-    let start = both .before .before .before .before in
-    let first = rw (known .first .given .1) at (both .before .before .insert .ensures) in
-    let second = rw (both .before .with-bit .ensures, c .enum-told2 .given .1) at (both .insert2 .ensures) in
+returns-3 : tie.Need-returns-3
+returns-3 c =
+    let both = c .before .before in
+    let known = both .before .before .before .before in
+    let inserted = known .before .before in
+    let start = inserted .before .before in
+    let first = rw (known .a .given .1) at (inserted .insert .ensures) in
+    let second = rw (both .before .with-bit2 .ensures, c .enum-told2 .given .1) at (both .insert3 .ensures) in
     let a = start .args in
     first-stays (a .places .now) (a .k) (a .word) (start .pre .2 .below) _ first second
 
@@ -56,14 +76,15 @@ add-lighter c = search needs
 lighter-requires : tie.Need-lighter-requires
 lighter-requires c κs = search needs
 
-returns-3 : tie.Need-returns-3
-returns-3 c =
+returns-4 : tie.Need-returns-4
+returns-4 c =
     let known2 = c .before .before in
-    let known = known2 .before .before .before in
-    let both = known .before .before in
-    let start = both .before .before .before .before in
-    let first = rw (known .first .given .1) at (both .before .before .insert .ensures) in
-    let second = rw (both .before .with-bit .ensures, known2 .second .given .1) at (both .insert2 .ensures) in
+    let both = known2 .before .before in
+    let known = both .before .before .before .before in
+    let inserted = known .before .before in
+    let start = inserted .before .before in
+    let first = rw (known .a .given .1) at (inserted .insert .ensures) in
+    let second = rw (both .before .with-bit2 .ensures, known2 .b .given .1) at (both .insert3 .ensures) in
     let a = start .args in
     rw (c .lighter .ensures) (lighter-stays (a .places .now) (a .k) (a .word) (start .pre .2 .below) _ _ first second)
 
@@ -72,14 +93,17 @@ with-key-spec =
     tie.close
     (tie.spec
     insert-requires
+    enum-known-a
+    enum-told
     with-bit-requires
     insert-requires-2
-    enum-known-first
-    enum-told
     returns
-    enum-known-second
-    enum-told-2
     returns-2
+    with-bit-requires-2
+    insert-requires-3
+    enum-known-b
+    enum-told-2
+    returns-3
     add-lighter
     lighter-requires
-    returns-3)
+    returns-4)
