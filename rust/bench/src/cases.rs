@@ -1,0 +1,182 @@
+//! The lists that are built, checked and looked up in.
+
+use crate::random::Random;
+use model::hash::{group_of, place_of};
+use model::list_text;
+use model::placing::LARGEST_GROUP;
+use std::collections::HashSet;
+use std::iter;
+
+pub struct Case {
+    /// The name that `--count` takes.
+    pub name: &'static str,
+    pub title: &'static str,
+    pub groups: u32,
+    pub tags: Vec<u32>,
+}
+
+/// All seeds are allowed in every case.
+pub const LIMIT: u32 = 65_536;
+
+impl Case {
+    pub fn text(&self) -> Vec<u8> {
+        list_text(self.groups, LIMIT, &self.tags)
+    }
+
+    /// As many tags that are not in the list, in random order.
+    pub fn absent(&self, random: &mut Random) -> Vec<u32> {
+        let mut absent = Vec::new();
+        while absent.len() < self.tags.len() {
+            let tag = random.tag();
+            if self.tags.binary_search(&tag).is_err() {
+                absent.push(tag);
+            }
+        }
+        absent
+    }
+
+    pub fn shuffled(&self, random: &mut Random) -> Vec<u32> {
+        let mut tags = self.tags.clone();
+        random.shuffle(&mut tags);
+        tags
+    }
+
+    /// The sizes of the smallest and of the largest group.
+    pub fn sizes(&self) -> (usize, usize) {
+        let mut sizes = vec![0; self.groups as usize];
+        for &tag in &self.tags {
+            sizes[group_of(tag, self.groups) as usize] += 1;
+        }
+        let least = sizes.iter().min().expect("there is a group");
+        let most = sizes.iter().max().expect("there is a group");
+        (*least, *most)
+    }
+}
+
+/// Lists that are built.
+pub fn built() -> Vec<Case> {
+    let case = |name, title, groups, tags| Case {
+        name,
+        title,
+        groups,
+        tags,
+    };
+    vec![
+        case(
+            "512-random",
+            "4,096 random tags, B = 512",
+            512,
+            random(1, 4_096, 512),
+        ),
+        case(
+            "512-walked",
+            "4,096 consecutive tags, B = 512",
+            512,
+            walked(4_096, 512, LARGEST_GROUP),
+        ),
+        case(
+            "171-random",
+            "4,096 random tags, B = 171",
+            171,
+            random(2, 4_096, 171),
+        ),
+        case(
+            "171-walked",
+            "4,096 almost consecutive tags, B = 171",
+            171,
+            walked(4_096, 171, LARGEST_GROUP),
+        ),
+        case(
+            "32-random",
+            "256 random tags, B = 32",
+            32,
+            random(3, 256, 32),
+        ),
+    ]
+}
+
+/// One group that no seed serves, so that all of them are tried.
+///
+/// The tags are multiples of 2^28 or 2^27, so their places under a seed depend on the seed's low
+/// bits only. In the cases "dropped" the occupancy word drops every seed; in the cases "evicted"
+/// it drops none, and a chain of evictions ends the test of each.
+pub fn unserved() -> Vec<Case> {
+    let case = |name, title, shift, multiples: &[u32]| Case {
+        name,
+        title,
+        groups: 1,
+        tags: multiples.iter().map(|multiple| multiple << shift).collect(),
+    };
+    let first_24: Vec<u32> = (0..24).collect();
+    vec![
+        case(
+            "8-dropped",
+            "8 tags that no seed serves, all seeds dropped early",
+            28,
+            &[0, 1, 2, 3, 4, 6, 8, 9],
+        ),
+        case(
+            "8-evicted",
+            "8 tags that no seed serves, none dropped early",
+            28,
+            &[3, 5, 8, 9, 10, 11, 13, 14],
+        ),
+        case(
+            "24-dropped",
+            "24 tags that no seed serves, all seeds dropped early",
+            27,
+            &first_24,
+        ),
+        case(
+            "24-evicted",
+            "24 tags that no seed serves, none dropped early",
+            27,
+            &[
+                3, 6, 7, 9, 10, 11, 12, 13, 14, 15, 17, 18, 19, 21, 22, 23, 24, 25, 26, 27, 28, 29,
+                30, 31,
+            ],
+        ),
+    ]
+}
+
+/// Of the tags 1, 2, 3, … those whose group has fewer than `most` so far.
+pub fn walked(count: usize, groups: u32, most: usize) -> Vec<u32> {
+    with_room(1.., count, groups, most)
+}
+
+/// Random tags, none of them in a group that is full.
+fn random(seed: u64, count: usize, groups: u32) -> Vec<u32> {
+    let mut random = Random::new(seed);
+    let mut drawn = HashSet::new();
+    let tags = iter::repeat_with(|| random.tag()).filter(|&tag| drawn.insert(tag));
+    let mut tags = with_room(tags, count, groups, LARGEST_GROUP);
+    tags.sort_unstable();
+    tags
+}
+
+/// The first `count` tags without those whose group has `most` already.
+fn with_room(tags: impl Iterator<Item = u32>, count: usize, groups: u32, most: usize) -> Vec<u32> {
+    let mut sizes = vec![0; groups as usize];
+    let has_room = |tag: &u32| {
+        let size = &mut sizes[group_of(*tag, groups) as usize];
+        let room = *size < most;
+        *size += usize::from(room);
+        room
+    };
+    tags.filter(has_room).take(count).collect()
+}
+
+/// How many of the seeds the occupancy word lets pass.
+pub fn passing(tags: &[u32]) -> usize {
+    let n = tags.len() as u32;
+    let touches_all = |&seed: &u32| {
+        let mut word = 0u32;
+        for &tag in tags {
+            for choice in 0..2 {
+                word |= 1 << place_of(n, seed, choice, tag);
+            }
+        }
+        word.count_ones() == n
+    };
+    (0..LIMIT).filter(touches_all).count()
+}

@@ -1,0 +1,83 @@
+//! One case run a number of times, for a tool that counts instructions.
+//!
+//! What is counted besides the operation is the same for every number of repetitions, so the
+//! difference of two runs is what the repetitions between them take.
+
+use crate::cases::{self, Case};
+use crate::random::Random;
+use crate::versions::{Version, BOTH, PLAIN};
+use std::hint::black_box;
+use tag_index::LONGEST_IMAGE;
+
+/// Lookups in a repetition.
+const LOOKUPS: usize = 1_000;
+
+const OPERATIONS: [&str; 4] = ["build", "check", "hits", "misses"];
+
+/// Prints the names of the cases and of the versions.
+pub fn print_cases() {
+    for operation in OPERATIONS {
+        for case in cases_of(operation) {
+            println!("{operation}-{}", case.name);
+        }
+    }
+    println!("versions: {}", BOTH.map(|version| version.name).join(" "));
+}
+
+/// The cases that an operation takes.
+fn cases_of(operation: &str) -> Vec<Case> {
+    let mut cases = cases::built();
+    if operation == "build" {
+        cases.extend(cases::unserved());
+    }
+    cases
+}
+
+pub fn run(case: &str, version: &str, repetitions: &str) -> Result<(), String> {
+    let (operation, name) = case
+        .split_once('-')
+        .filter(|(operation, _)| OPERATIONS.contains(operation))
+        .ok_or_else(|| format!("there is no case {case}"))?;
+    let case = cases_of(operation)
+        .into_iter()
+        .find(|listed| listed.name == name)
+        .ok_or_else(|| format!("there is no case {case}"))?;
+    let version = BOTH
+        .into_iter()
+        .find(|listed| listed.name == version)
+        .ok_or_else(|| format!("there is no version {version}"))?;
+    let repetitions = repetitions
+        .parse()
+        .map_err(|_| format!("{repetitions} is no number of repetitions"))?;
+    repeat(operation, &case, version, repetitions);
+    Ok(())
+}
+
+fn repeat(operation: &str, case: &Case, version: Version, repetitions: u32) {
+    let text = case.text();
+    let mut buffer = vec![b'.'; LONGEST_IMAGE];
+    if operation == "build" {
+        for _ in 0..repetitions {
+            black_box((version.build)(black_box(&text), black_box(&mut buffer)));
+        }
+        return;
+    }
+    let length = (PLAIN.build)(&text, &mut buffer);
+    assert_eq!(length >> 32, 0, "{} is not built", case.title);
+    let image = &buffer[..length as usize];
+    let mut random = Random::new(3);
+    let mut queries = match operation {
+        "misses" => case.absent(&mut random),
+        _ => case.shuffled(&mut random),
+    };
+    queries.truncate(LOOKUPS);
+    for _ in 0..repetitions {
+        if operation == "check" {
+            black_box((version.check)(black_box(image)));
+        } else {
+            for &tag in &queries {
+                black_box((version.lookup)(black_box(image), tag));
+            }
+        }
+    }
+}

@@ -1,0 +1,281 @@
+//! Building, checking and lookup of each case: every version's time, with its results asserted.
+
+use crate::cases::{self, Case, LIMIT};
+use crate::random::Random;
+use crate::timing::{measure, median, print as print_samples, time, Sample, Timed, REPETITIONS};
+use crate::versions::{Version, BOTH};
+use std::collections::HashMap;
+use std::hint::black_box;
+use std::time::{Duration, Instant};
+use tag_index::LONGEST_IMAGE;
+
+/// What stands in a buffer before a build.
+const CLEARED: u8 = b'.';
+
+/// A table's title and its samples, the proved version's and the plain one's first.
+struct Row {
+    title: String,
+    samples: Vec<Sample>,
+}
+
+pub fn print() {
+    println!(
+        "Times of one operation: medians of {REPETITIONS} repetitions, with the versions in turn."
+    );
+    println!("  proved         the proved library over its C boundary");
+    println!("  plain          plain Rust on the same text, rust/bench/src/plain.rs");
+    println!("  hash map       std HashMap<u32, u32> of the parsed list");
+    println!("  sorted slice   pairs of the parsed list, by binary search");
+    println!("Answers and images are asserted equal, byte for byte, to the model's: after every build, and after every pass of checks or lookups, outside the times.");
+    println!("Buffers are filled with '.' before every build, outside the times; L = {LIMIT} in all cases.");
+
+    let mut rows = Vec::new();
+    let built = cases::built();
+    rows.extend(built.iter().map(build));
+    rows.extend(cases::unserved().iter().map(build_unserved));
+    rows.extend(built.iter().map(check));
+    let mut random = Random::new(3);
+    for case in &built {
+        let hits = case.shuffled(&mut random);
+        rows.push(lookup(case, "hits", &hits));
+        let misses = case.absent(&mut random);
+        rows.push(lookup(case, "misses", &misses));
+    }
+
+    println!("\nSummary: medians, and the median of the ratios");
+    println!("  {:<76}{:>10}{:>11}  ratio", "", "proved", "plain");
+    for row in rows {
+        let [proved, plain] = [&row.samples[0], &row.samples[1]];
+        println!(
+            "  {:<76}{:>10}{:>11}  {:.2}",
+            row.title,
+            time(proved.median()),
+            time(plain.median()),
+            median(&proved.ratios(plain))
+        );
+    }
+}
+
+fn row(title: String, samples: Vec<Sample>) -> Row {
+    print_samples(&title, &samples);
+    Row { title, samples }
+}
+
+/// The image of a case, if it has one, and building's answer, as the model says.
+fn expected(case: &Case) -> (u64, Vec<u8>) {
+    let mut buffer = vec![CLEARED; LONGEST_IMAGE];
+    let answer = model::answer_build(&case.text(), &mut buffer);
+    (answer, buffer)
+}
+
+fn image_of(case: &Case) -> Vec<u8> {
+    let (answer, buffer) = expected(case);
+    assert_eq!(answer >> 32, 0, "{} is not built", case.title);
+    buffer[..answer as usize].to_vec()
+}
+
+/// The tags with their numbers, in the order of the list.
+fn pairs_of(case: &Case, image: &[u8]) -> Vec<(u32, u32)> {
+    let number = |&tag| (tag, model::answer_lookup(image, tag) as u32);
+    case.tags.iter().map(number).collect()
+}
+
+/// The time of so many builds.
+fn time_builds(
+    version: Version,
+    text: &[u8],
+    answer: u64,
+    expected: &[u8],
+    iterations: u32,
+) -> Duration {
+    let mut buffer = vec![0; expected.len()];
+    let mut all = Duration::ZERO;
+    for _ in 0..iterations {
+        buffer.fill(CLEARED);
+        let begin = Instant::now();
+        let answered = (version.build)(black_box(text), black_box(&mut buffer));
+        all += begin.elapsed();
+        assert_eq!(answered, answer);
+        assert!(buffer == expected, "{} writes another image", version.name);
+    }
+    all
+}
+
+/// Building by all versions, asserted against the model.
+pub fn build_samples(case: &Case) -> Vec<Sample> {
+    let text = &case.text()[..];
+    let (answer, expected) = &expected(case);
+    let pairs = match answer >> 32 {
+        0 => pairs_of(case, &expected[..*answer as usize]),
+        _ => Vec::new(),
+    };
+    let mut versions = Vec::new();
+    for version in BOTH {
+        versions.push(Timed {
+            name: version.name,
+            run: Box::new(move |iterations| {
+                time_builds(version, text, *answer, expected, iterations)
+            }),
+        });
+    }
+    if !pairs.is_empty() {
+        versions.extend(containers(&pairs));
+    }
+    measure(1, versions)
+}
+
+/// Making a hash map and a sorted slice of the pairs.
+fn containers(pairs: &[(u32, u32)]) -> [Timed<'_>; 2] {
+    [
+        Timed {
+            name: "hash map",
+            run: Box::new(move |iterations| {
+                let mut all = Duration::ZERO;
+                for _ in 0..iterations {
+                    let begin = Instant::now();
+                    let map: HashMap<u32, u32> = black_box(pairs).iter().copied().collect();
+                    all += begin.elapsed();
+                    assert!(pairs
+                        .iter()
+                        .all(|(tag, number)| map.get(tag) == Some(number)));
+                }
+                all
+            }),
+        },
+        Timed {
+            name: "sorted slice",
+            run: Box::new(move |iterations| {
+                let mut all = Duration::ZERO;
+                for _ in 0..iterations {
+                    let begin = Instant::now();
+                    let mut sorted = black_box(pairs).to_vec();
+                    sorted.sort_unstable();
+                    all += begin.elapsed();
+                    assert!(sorted == pairs);
+                }
+                all
+            }),
+        },
+    ]
+}
+
+fn build(case: &Case) -> Row {
+    let (least, most) = case.sizes();
+    let title = format!("build: {} ({least} to {most} a group)", case.title);
+    row(title, build_samples(case))
+}
+
+/// Building where every seed is tried: the case must be what its title says.
+fn build_unserved(case: &Case) -> Row {
+    assert_eq!(expected(case).0, 7 << 32, "{}", case.title);
+    let passing = if case.name.ends_with("dropped") {
+        0
+    } else {
+        LIMIT as usize
+    };
+    assert_eq!(cases::passing(&case.tags), passing, "{}", case.title);
+    row(format!("build: {}", case.title), build_samples(case))
+}
+
+fn check(case: &Case) -> Row {
+    let image = &image_of(case)[..];
+    assert_eq!(model::answer_check(image), 0);
+    let versions = BOTH.iter().map(|&version| Timed {
+        name: version.name,
+        run: Box::new(move |iterations| {
+            let begin = Instant::now();
+            let mut answers = 0;
+            for _ in 0..iterations {
+                answers |= (version.check)(black_box(image));
+            }
+            let all = begin.elapsed();
+            assert_eq!(answers, 0);
+            all
+        }),
+    });
+    row(
+        format!("check: {}", case.title),
+        measure(1, versions.collect()),
+    )
+}
+
+/// The time of so many passes over the queries.
+fn time_lookups(
+    queries: &[u32],
+    expected: &[u64],
+    iterations: u32,
+    lookup: impl Fn(u32) -> u64,
+) -> Duration {
+    let mut answers = vec![0; queries.len()];
+    let mut all = Duration::ZERO;
+    for _ in 0..iterations {
+        let begin = Instant::now();
+        for (answer, &tag) in answers.iter_mut().zip(queries) {
+            *answer = lookup(tag);
+        }
+        all += begin.elapsed();
+        assert!(answers == expected);
+    }
+    all
+}
+
+/// Lookups of the queries in all versions, asserted against the model.
+pub fn lookup_samples(case: &Case, queries: &[u32]) -> Vec<Sample> {
+    let image = &image_of(case)[..];
+    let expected: Vec<u64> = queries
+        .iter()
+        .map(|&tag| model::answer_lookup(image, tag))
+        .collect();
+    let expected = &expected[..];
+    let sorted = pairs_of(case, image);
+    let map: HashMap<u32, u32> = sorted.iter().copied().collect();
+    let (sorted, map) = (&sorted[..], &map);
+    let [proved, plain] = BOTH.map(|version| version.lookup);
+    let versions = vec![
+        Timed {
+            name: "proved",
+            run: Box::new(move |iterations| {
+                time_lookups(queries, expected, iterations, |tag| {
+                    proved(black_box(image), tag)
+                })
+            }),
+        },
+        Timed {
+            name: "plain",
+            run: Box::new(move |iterations| {
+                time_lookups(queries, expected, iterations, |tag| {
+                    plain(black_box(image), tag)
+                })
+            }),
+        },
+        Timed {
+            name: "hash map",
+            run: Box::new(move |iterations| {
+                time_lookups(queries, expected, iterations, |tag| {
+                    let found = black_box(map).get(&tag);
+                    found.map_or(tag_index::UNKNOWN, |&number| number.into())
+                })
+            }),
+        },
+        Timed {
+            name: "sorted slice",
+            run: Box::new(move |iterations| {
+                time_lookups(queries, expected, iterations, |tag| {
+                    let sorted = black_box(sorted);
+                    match sorted.binary_search_by_key(&tag, |&(listed, _)| listed) {
+                        Ok(index) => sorted[index].1.into(),
+                        Err(_) => tag_index::UNKNOWN,
+                    }
+                })
+            }),
+        },
+    ];
+    measure(queries.len(), versions)
+}
+
+fn lookup(case: &Case, kind: &str, queries: &[u32]) -> Row {
+    row(
+        format!("lookup, {kind} in random order: {}", case.title),
+        lookup_samples(case, queries),
+    )
+}

@@ -1,0 +1,29 @@
+//! The two versions that take the same texts and answer the same numbers.
+
+use crate::plain;
+use tag_index::raw;
+
+#[derive(Clone, Copy)]
+pub struct Version {
+    pub name: &'static str,
+    pub build: fn(&[u8], &mut [u8]) -> u64,
+    pub check: fn(&[u8]) -> u64,
+    pub lookup: fn(&[u8], u32) -> u64,
+}
+
+/// The library that is proved, over its C boundary.
+pub const PROVED: Version = Version {
+    name: "proved",
+    build: raw::build,
+    check: raw::check,
+    lookup: raw::lookup,
+};
+
+pub const PLAIN: Version = Version {
+    name: "plain",
+    build: plain::build,
+    check: plain::check,
+    lookup: plain::lookup,
+};
+
+pub const BOTH: [Version; 2] = [PROVED, PLAIN];
