@@ -19,7 +19,7 @@ use Rattle.image.specs.FaultLaws.{fair-of-faulty}
 use Rattle.image.specs.Lookup.{Found, number, unknown, lookupChecks, atSlot, lookupInGroup, lookupOf}
 use Rattle.opening.specs.Opening.{openingOf}
 use Rattle.opening.specs.OpeningLaws.{Opens, opening-answered}
-use Rattle.from_text.specs.PlaceLaws.{PlaceBelow, below-checks, below-cond, metAt-below, met-below, first-below}
+use Rattle.refusal.specs.PlaceLaws.{PlaceBelow, below-checks, below-cond, metAt-below, met-below, first-below}
 
 -- An image has at most 1 + 512 + 4,096 lines.
 abbrev pub imageLines : ℕ

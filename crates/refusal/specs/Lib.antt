@@ -8,5 +8,6 @@ pub mod FirstLaws
 pub mod Search
 pub mod Checks
 pub mod ChecksLaws
+pub mod PlaceLaws
 pub mod Reason
 pub mod Answer

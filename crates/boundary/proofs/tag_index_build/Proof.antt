@@ -4,7 +4,8 @@ use borrow.Author.Needs.{needs}
 use mathlib.Core.Path.{sym, _∙_, ap}
 use native.Mathlib.Omega.{arith}
 use Rattle.build.specs.Answer.{buildOutcome}
-use Rattle.from_text.specs.PlaceLaws.{textLines, place-below, from-text-place}
+use Rattle.refusal.specs.PlaceLaws.{place-below}
+use Rattle.from_text.specs.PlaceLaws.{textLines, from-text-place}
 use Rattle.boundary.specs.Answer64.{answer64, buildAnswer}
 use Rattle.boundary.proofs.tag_index_build.Statement.{statement}
 use Rattle.boundary.proofs.tag_index_build.Tie as tie

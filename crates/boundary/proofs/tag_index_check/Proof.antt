@@ -4,7 +4,7 @@ use borrow.Author.Needs.{needs}
 use mathlib.Core.Path.{sym, _∙_, ap}
 use native.Mathlib.Omega.{arith}
 use Rattle.checking.specs.Answer.{checkOutcome}
-use Rattle.from_text.specs.PlaceLaws.{place-below}
+use Rattle.refusal.specs.PlaceLaws.{place-below}
 use Rattle.boundary.specs.Answer64.{answer64, checkAnswer}
 use Rattle.boundary.specs.PlaceLaws.{imageLines, checking-place}
 use Rattle.boundary.proofs.tag_index_check.Statement.{statement}

@@ -7,7 +7,7 @@ use native.Mathlib.Omega.{arith}
 use Rattle.refusal.specs.Outcome.{Outcome, answeredBy}
 use Rattle.image.specs.Lookup.{Found}
 use Rattle.lookup.specs.Answer.{lookupOutcome}
-use Rattle.from_text.specs.PlaceLaws.{place-below}
+use Rattle.refusal.specs.PlaceLaws.{place-below}
 use Rattle.boundary.specs.Answer64.{answer64, foundNumber, lookupAnswer}
 use Rattle.boundary.specs.Condition2.{answered-condition2}
 use Rattle.boundary.specs.PlaceLaws.{imageLines, lookup-place}

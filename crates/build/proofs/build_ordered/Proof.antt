@@ -42,9 +42,11 @@ slice-aggregate-write-image : tie.Need-slice-aggregate-write-image
 slice-aggregate-write-image c =
     let told = c .before in
     let planned = told .before .before in
-    let a = planned .before .before .before .before .before .before .args in
+    let start = planned .before .before .before .before .before .before in
+    let a = start .args in
     let seeds = rw (told .enum-told .given .1) at (planned .plan-seeds .ensures .1) in
-    sym (ap length seeds ∙ planned-length (a .ordered .now) (a .ends .now) (a .limit) (a .groups) _ (groups-legal (planned .before .before .before .before .before .before .pre) .1))
+    let kept = planned-length (a .ordered .now) (a .ends .now) (a .limit) (a .groups) _ (groups-legal (start .pre) .1) in
+    sym (ap length seeds ∙ kept)
 
 write-image-requires : tie.Need-write-image-requires
 write-image-requires c κs =
@@ -73,8 +75,13 @@ returns-2 c =
     let every = sym (seedless-first (start .pre)) ∙ sym (planned .plan-seeds .ensures .0) ∙ ap firstMeaning (told .enum-told .given .1) in
     let outcome = building-answered (start .pre .admitted) (start .pre .small) every in
     let seeds = rw (told .enum-told .given .1) at (planned .plan-seeds .ensures .1) in
-    let image = ap (λ (l : List ℕ). bytesOf (plannedSheet (a .ordered .now) (a .ends .now) l (a .groups) (length (a .tags .now)))) seeds ∙ planned-image (start .pre) every _ (groups-legal (start .pre) .1) in
-    (ap answered (c .image-length .ensures) ∙ sym outcome, written .write-image .ensures ∙ rw (image, ← image-length (a .groups) (a .tags .now) (a .limit)) (sym (buffer-written (a .tags .now) (a .groups) (a .limit) (a .buffer .now) outcome)))
+    let count = length (a .tags .now) in
+    let stated = ap (λ (l : List ℕ). bytesOf (plannedSheet (a .ordered .now) (a .ends .now) l (a .groups) count)) seeds in
+    let image = stated ∙ planned-image (start .pre) every _ (groups-legal (start .pre) .1) in
+    let left = buffer-written (a .tags .now) (a .groups) (a .limit) (a .buffer .now) outcome in (
+      ap answered (c .image-length .ensures) ∙ sym outcome,
+      written .write-image .ensures ∙ rw (image, ← image-length (a .groups) (a .tags .now) (a .limit)) (sym left),
+    )
 
 pub build-ordered-spec : {M : Type 1} → statement M
 build-ordered-spec =

@@ -4,7 +4,8 @@ use borrow.Author.Needs.{needs}
 use mathlib.Core.Path.{sym, _∙_, ap}
 use native.Mathlib.Omega.{arith}
 use Rattle.build.specs.Answer.{buildOutcome}
-use Rattle.from_text.specs.PlaceLaws.{textLines, place-below, from-text-place}
+use Rattle.refusal.specs.PlaceLaws.{place-below}
+use Rattle.from_text.specs.PlaceLaws.{textLines, from-text-place}
 use Rattle.printing.specs.PrintingLaws.{longest-is, printed-nothing, printed-built, printed-refused}
 use Rattle.printing.proofs.print_index.Statement.{statement}
 use Rattle.printing.proofs.print_index.Tie as tie

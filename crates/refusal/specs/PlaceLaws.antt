@@ -1,0 +1,70 @@
+-- How far a refusal's place can lie: below a bound, from an operation's list of checks. Assumes nothing.
+use mathlib.Core.Path.{_≡_, refl}
+use mathlib.Core.Bool.{Bool, true, false, cond}
+use mathlib.Core.List.{List, [], _∷_}
+use mathlib.Core.Option.{Option, none, some}
+use Prim.Native.Nat.{ℕ, _≤_, _<_}
+use native.Mathlib.Omega.{arith}
+use Rattle.refusal.specs.Outcome.{Outcome, answered, refused, followedBy}
+use Rattle.refusal.specs.First.{metAt, first}
+use Rattle.refusal.specs.FirstLaws.{first-some}
+use Rattle.refusal.specs.Checks.{Check, met, inOrder}
+
+-- A place, where one is named, is below the bound.
+abbrev pub SpotBelow : ℕ → Option ℕ → Type 0
+SpotBelow bound none = Unit {0}
+SpotBelow bound (some place) = place < bound
+
+-- A refusal's place is below the bound. An answer has none.
+abbrev pub PlaceBelow : {A : Type 0} → ℕ → Outcome A → Type 0
+PlaceBelow bound (answered a) = Unit {0}
+PlaceBelow bound (refused number place) = place < bound
+
+-- Each check names a place below the bound where the checks before it pass, and where all pass this holds behind them.
+abbrev pub ChecksBelow : ℕ → List Check → Type 0 → Type 0
+ChecksBelow bound [] behind = behind
+ChecksBelow bound (check ∷ checks) behind = SpotBelow bound (check .1) × (check .1 ≡ none → ChecksBelow bound checks behind)
+
+module _ {A : Type 0} (bound : ℕ) where
+  -- Then the place of the refusal that comes is below it.
+  pub below-checks : (checks : List Check) (o : Outcome A) → ChecksBelow bound checks (PlaceBelow bound o)
+      → PlaceBelow bound (inOrder checks o)
+  unfolding inOrder
+  below-checks [] o h = h
+  below-checks ((number, none) ∷ checks) o h = below-checks checks o (h .1 refl)
+  below-checks ((number, some place) ∷ checks) o h = h .0
+
+  -- One operation after another.
+  pub below-followed : {B : Type 0} (o : Outcome B) (next : B → Outcome A) → PlaceBelow bound o → ((b : B) → PlaceBelow bound (next b))
+      → PlaceBelow bound (followedBy o next)
+  unfolding followedBy
+  below-followed (answered b) next h h′ = h′ b
+  below-followed (refused number place) next h h′ = h
+
+  -- One of two outcomes.
+  pub below-cond : (b : Bool) (o p : Outcome A) → (b ≡ true → PlaceBelow bound o) → (b ≡ false → PlaceBelow bound p)
+      → PlaceBelow bound (cond b o p)
+  below-cond true o p h h′ = h refl
+  below-cond false o p h h′ = h′ refl
+
+  -- The place of a refusal that is known.
+  pub place-below : {o : Outcome A} {number place : ℕ} → PlaceBelow bound o → o ≡ refused number place → place < bound
+  place-below h e = rw e at h
+
+module _ (bound : ℕ) where
+  -- A condition's own place, 0 where it names none, and the lowest index.
+  pub metAt-below : (place : ℕ) (condition : Bool) → place < bound → SpotBelow bound (metAt place condition)
+  unfolding metAt
+  metAt-below place true lt = lt
+  metAt-below place false lt = tt
+
+  pub met-below : (condition : Bool) → 0 < bound → SpotBelow bound (met condition)
+  unfolding met
+  met-below condition lt = metAt-below 0 condition lt
+
+  pub first-below : (test : ℕ → Bool) (limit : ℕ) → limit ≤ bound → SpotBelow bound (first test limit)
+  first-below test limit le = go (first test limit) refl
+    where
+      go : (o : Option ℕ) → first test limit ≡ o → SpotBelow bound o
+      go none e = tt
+      go (some k) e = omega (arith, (first-some test limit e) .below)
