@@ -78,6 +78,7 @@ pub fn compare(crates: &Path) -> bool {
             }
         };
     }
+    passed &= printer(crates);
     for name in programs_below(crates) {
         if !PROGRAMS.iter().any(|(known, _)| *known == name) {
             println!("stored: difference: {name} has a stored output, and the model writes none");
@@ -85,6 +86,18 @@ pub fn compare(crates: &Path) -> bool {
         }
     }
     passed
+}
+
+/// The stored input and output of the index printer: the whole case of document 01.
+fn printer(crates: &Path) -> bool {
+    let stored = |file: &str| fs::read(crates.join("printer").join(file));
+    match (stored("stdin"), stored("stdout")) {
+        (Ok(input), Ok(output)) => same("printer", &output, &model::print_index(&input)),
+        _ => {
+            println!("stored: the printer has no stored input and output");
+            false
+        }
+    }
 }
 
 fn same(name: &str, stored: &[u8], written: &[u8]) -> bool {
