@@ -9,7 +9,7 @@ use lib.Seq.{ext-getD}
 use borrow.Author.Tests.{eq-eqb, ne-eqb}
 use Rattle.hash.specs.Formula.{hashed, multiplier, placeOf}
 use Rattle.hash.specs.FormulaLaws.{place-below}
-use Rattle.filling.specs.Places.{occurs, distinct}
+use Rattle.filling.specs.Places.{distinct}
 use Rattle.filling.specs.PlacesLaws.{occurs-not, distinct-head, distinct-tail, getD-occurs, occurs-getD, distinct-getD, onto}
 use Rattle.filling.specs.Filling.{placeBy, chosen, Fills}
 use Rattle.filling.specs.FillingLaws.{chosen-length, chosen-at, chosen-candidate}
@@ -64,17 +64,6 @@ place-by-number : (n seed t : ℕ) (choice : Bool) → placeBy choice (bothPlace
 unfolding placeBy bothPlaces choiceNumber
 place-by-number n seed t false = refl
 place-by-number n seed t true = refl
-
--- A group has a slot for each tag.
-pub groupSlots-length : (part : List ℕ) (seed : ℕ) → length (groupSlots part seed (taken part seed)) ≡ length part
-unfolding groupSlots
-groupSlots-length part seed = upTo-length (length part) (tagNumbered (placeIn part seed (taken part seed)) part)
-
--- The place of a tag of the group is below the size of the group.
-pub place-has-room : (part : List ℕ) (seed t : ℕ) → occurs t part ≡ true → placeIn part seed (taken part seed) t < length part
-place-has-room part seed t m =
-    let at = occurs-getD part t m in
-    place-inside part seed (taken part seed) t (omega (arith, at .inside))
 
 -- The place of the tag with index i, under the sequence taken.
 abbrev pub placeWith : List ℕ → ℕ → ℕ → ℕ
@@ -151,13 +140,3 @@ module _ {part : List ℕ} {seed room : ℕ} (a : Arrangeable part seed room) wh
       let has = tagNumbered-is place part j (place-reached j below) in
       let at = occurs-getD part (tagNumbered place part j) (has .0) in
       rw (upTo-at (length part) (tagNumbered place part) 0 j below) (rw (at .value, has .1) at (each (at .index) (at .inside))))
-
-  -- A tag stands in the slot of its place.
-  pub groupSlots-tag : (t : ℕ) → occurs t part ≡ true
-      → getD (groupSlots part seed (taken part seed)) (placeIn part seed (taken part seed) t) 0 ≡ t
-  unfolding groupSlots
-  groupSlots-tag t m =
-      let place = placeIn part seed (taken part seed) in
-      let has = tagNumbered-is place part (place t) record { from = t; listed = m; value = refl } in
-      upTo-at (length part) (tagNumbered place part) 0 (place t) (place-has-room part seed t m)
-      ∙ place-apart part seed (taken part seed) (a .differ) arranged-fills (tagNumbered place part (place t)) t (has .0) m (has .1)

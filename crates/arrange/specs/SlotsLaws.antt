@@ -1,22 +1,15 @@
 -- The slots of the first groups: those of one group more, how many they are, and which tag stands where. Assumes nothing.
-use Prim.Native.Nat.{ℕ, zero, suc, _+_, _≤_, _<_}
-use mathlib.Core.Path.{_≡_, refl, _∙_, ap}
-use mathlib.Core.Bool.{Bool, true, false}
+use Prim.Native.Nat.{ℕ, zero, suc, _+_, _≤_}
+use mathlib.Core.Path.{_≡_, refl, ap}
 use mathlib.Core.List.{List, [], _++_, flatten}
 use native.Mathlib.Omega.{arith}
-use lib.Dec.{ltb}
-use lib.ListN.{length, getD, drop, length-append, length-drop, List·getD-append}
-use lib.Seq.{getD-append-add}
-use borrow.Author.Tests.{ltb-true, ltb-false}
-use Rattle.filling.specs.Places.{occurs}
-use Rattle.group.specs.Group.{taken}
+use lib.ListN.{length, getD, drop, length-append, length-drop}
 use Rattle.image.specs.Sheet.{upTo}
 use Rattle.image.specs.SheetLaws.{flatten-more}
-use Rattle.building.specs.Number.{placeIn}
 use Rattle.building.specs.Parts.{partStart, partOf, Parts}
-use Rattle.arrange.specs.Arrange.{AllArrangeable, slotsOfPart, allSlots}
-use Rattle.arrange.specs.PlaceLaws.{place-has-room, groupSlots-length, groupSlots-tag}
-use Rattle.arrange.specs.PartsLaws.{start-inside, start-rises, part-length}
+use Rattle.arrange.specs.Arrange.{slotsOfPart, allSlots}
+use Rattle.building.specs.SlotsLaws.{slots-length as groupSlots-length}
+use Rattle.arrange.specs.PartsLaws.{start-inside, part-length}
 
 module _ (ordered ends seeds : List ℕ) where
   -- The slots of no group are none.
@@ -32,7 +25,7 @@ module _ (ordered ends seeds : List ℕ) where
   -- A group's slots are as many as the tags of its part.
   pub slotsOfPart-length : (g : ℕ) → length (slotsOfPart ordered ends seeds g) ≡ length (partOf ordered ends g)
   unfolding slotsOfPart
-  slotsOfPart-length g = groupSlots-length (partOf ordered ends g) (getD seeds g 0)
+  slotsOfPart-length g = groupSlots-length (partOf ordered ends g) (getD seeds g 0) _
 
 module _ {groups : ℕ} {ordered ends : List ℕ} (p : Parts groups ordered ends) (seeds : List ℕ) where
   -- The slots of the first groups are as many as their tags.

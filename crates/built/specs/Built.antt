@@ -2,37 +2,36 @@
 -- Assumes nothing.
 use mathlib.Core.Path.{_≡_, refl, sym, _∙_, ap}
 use mathlib.Core.Logic.{_⊎_, inl, inr}
-use mathlib.Core.Bool.{Bool, true, false, cond, not, _&&_, _||_, true≢false, and-false}
-use mathlib.Core.List.{List, [], _∷_, _++_}
-use mathlib.Core.Option.{Option, none, some, Option·getD}
-use Prim.Native.Nat.{ℕ, zero, suc, _+_, _-_, _*_, _^_, _≤_, _<_}
+use mathlib.Core.Bool.{Bool, true, false, cond, _&&_, and-false}
+use mathlib.Core.List.{List}
+use mathlib.Core.Option.{Option, some, Option·getD}
+use Prim.Native.Nat.{ℕ, suc, _+_, _-_, _*_, _^_, _≤_, _<_}
 use native.Mathlib.Omega.{arith}
 use lib.Dec.{eqb, leb, ltb}
 use lib.ListN.{length}
-use borrow.Author.Tests.{ltb-true, ltb-false, lt-ltb, le-ltb, le-leb, lt-leb, eqb-true, eq-eqb, ne-eqb}
+use borrow.Author.Tests.{ltb-true, ltb-false, le-ltb, eq-eqb, ne-eqb}
 use Rattle.refusal.specs.Limits.{tagEnd, tagsMax, groupsMax, groupMax, seedMax}
-use Rattle.refusal.specs.Outcome.{Outcome, answered}
-use Rattle.refusal.specs.First.{first, isSome}
+use Rattle.refusal.specs.Outcome.{answered}
 use Rattle.refusal.specs.FirstLaws.{first-out, isSome-of-some, isSome-of-none}
-use Rattle.refusal.specs.ChecksLaws.{met-false, Pass, inOrder-pass}
+use Rattle.refusal.specs.ChecksLaws.{met-false}
 use Rattle.hash.specs.Formula.{groupOf, placeOf}
 use Rattle.hash.specs.FormulaLaws.{group-below}
-use Rattle.text.specs.Line.{lineLength, lineAt}
-use Rattle.filling.specs.Places.{occurs, distinct}
+use Rattle.text.specs.Line.{lineLength}
+use Rattle.filling.specs.Places.{occurs}
 use Rattle.filling.specs.PlacesLaws.{occurs-not}
-use Rattle.filling.specs.Filling.{placeBy, Fills}
+use Rattle.filling.specs.Filling.{placeBy}
 use Rattle.group.specs.Group.{bothPlaces}
 use Rattle.image.specs.Sheet.{Sheet, bytesOf, imageLength}
 use Rattle.image.specs.SheetLaws.{bytes-length, header-reads, group-reads, slot-reads}
-use Rattle.image.specs.View.{View, viewOf, countIn, groupsIn, startIn, seedIn, endIn, slotLineIn, slotIn, faulty, candidateIn}
-use Rattle.image.specs.Checking.{openingChecks, malformedIn, groupOfSlot, misplaced, repeated, checkingChecks, checkingOf}
-use Rattle.image.specs.Lookup.{Found, number, unknown, lookupInGroup, lookupOf}
-use Rattle.image.specs.FaultLaws.{Fair, faulty-of-fair, LiesIn, AllFair, lies-once, groupOfSlot-lies}
-use Rattle.image.specs.CheckedLookup.{HoldsTag, Sound, pass-of-sound, slotIn-reads, Looked, found, nowhere, ownGroup, own-placed, lookup-ends}
+use Rattle.image.specs.View.{View, viewOf, countIn, groupsIn, startIn, seedIn, endIn, slotLineIn, slotIn, candidateIn}
+use Rattle.image.specs.Checking.{openingChecks, groupOfSlot, misplaced, repeated}
+use Rattle.image.specs.Lookup.{number, unknown, lookupInGroup}
+use Rattle.image.specs.FaultLaws.{faulty-of-fair, LiesIn, AllFair, lies-once, groupOfSlot-lies}
+use Rattle.image.specs.CheckedLookup.{Sound, slotIn-reads, Looked, found, nowhere, ownGroup, own-placed, lookup-ends}
 use Rattle.building.specs.Members.{members, startOf}
-use Rattle.building.specs.MembersLaws.{start-zero, start-all, start-suc, start-before}
+use Rattle.building.specs.MembersLaws.{start-zero, start-all, start-suc}
 use Rattle.building.specs.Number.{choiceOf, placeIn, numberOf, tagNumbered}
-use Rattle.building.specs.NumberLaws.{ImageOf, Placed, number-below, number-apart, number-onto, AllFill, ownPlace, all-placed, tagNumbered-is}
+use Rattle.building.specs.NumberLaws.{Placed, number-below, number-apart, number-onto, AllFill, ownPlace, all-placed, tagNumbered-is}
 use Rattle.building.specs.Building.{sheetOf}
 
 -- A view that reads as a sheet states.

@@ -1,44 +1,42 @@
 -- Condition 3 holds of building as it is defined, for every list, group count, seed limit and buffer. Assumes nothing.
-use mathlib.Core.Path.{_≡_, refl, sym, _∙_, ap}
-use mathlib.Core.Logic.{_⊎_, inl, inr, _↔_}
-use mathlib.Core.Bool.{Bool, true, false, cond, not, true≢false}
-use mathlib.Core.List.{List, [], _∷_, _++_}
-use mathlib.Core.Option.{Option, none, some, Option·getD}
-use Prim.Native.Nat.{ℕ, zero, suc, _+_, _-_, _*_, _^_, _≤_, _<_}
+use mathlib.Core.Path.{_≡_, refl, sym, _∙_}
+use mathlib.Core.Logic.{inl, inr}
+use mathlib.Core.Bool.{Bool, true, false, cond}
+use mathlib.Core.List.{List, [], _∷_}
+use mathlib.Core.Option.{Option, none, some}
+use Prim.Native.Nat.{ℕ, _+_, _-_, _*_, _<_}
 use native.Mathlib.Omega.{arith}
 use lib.Dec.{ltb}
-use lib.ListN.{length, getD, take, drop}
+use lib.ListN.{length, take, drop}
 use lib.Seq.{take-at}
-use borrow.Author.Tests.{ltb-false, le-ltb, not-true, not-false}
-use Rattle.refusal.specs.Limits.{tagEnd, tagsMax, groupsMax, groupMax, limitMax, seedMax, outside}
+use borrow.Author.Tests.{ltb-false, le-ltb, not-true}
+use Rattle.refusal.specs.Limits.{tagEnd, tagsMax, groupsMax, groupMax, limitMax, outside}
 use Rattle.refusal.specs.LimitsLaws.{outside-not, inside}
-use Rattle.refusal.specs.Outcome.{Outcome, answered, refused}
+use Rattle.refusal.specs.Outcome.{answered, refused}
 use Rattle.refusal.specs.First.{first, isSome}
-use Rattle.refusal.specs.FirstLaws.{FirstAt, first-some, first-none, first-found, first-out, isSome-of-some, isSome-of-none, some-of-isSome, none-of-isSome}
+use Rattle.refusal.specs.FirstLaws.{first-some, first-none, first-found, first-out, none-of-isSome}
 use Rattle.refusal.specs.Checks.{Check, met, inOrder}
 use Rattle.refusal.specs.ChecksLaws.{met-false, false-of-met, Pass, Met, inOrder-pass, inOrder-answered, inOrder-refused, inOrder-append}
-use Rattle.text.specs.Line.{lineLength, lineAt}
+use Rattle.text.specs.Line.{lineLength}
 use Rattle.filling.specs.Places.{occurs}
-use Rattle.filling.specs.Filling.{Fills}
-use Rattle.filling.specs.Least.{NotAfter}
-use Rattle.group.specs.Group.{groupUnder, leastSeed, taken}
-use Rattle.group.specs.GroupLaws.{LeastSeed, leastSeed-some, leastSeed-none}
+use Rattle.group.specs.Group.{leastSeed, taken}
+use Rattle.group.specs.GroupLaws.{LeastSeed, leastSeed-none}
 use Rattle.group.specs.Ascending.{limitCheck, ascendingCheck}
 use Rattle.group.specs.AscendingLaws.{ascending-of-check, check-of-ascending}
-use Rattle.image.specs.Sheet.{Sheet, bytesOf, imageLength}
+use Rattle.image.specs.Sheet.{Sheet, imageLength}
 use Rattle.image.specs.SheetLaws.{group-at}
 use Rattle.image.specs.View.{viewOf}
 use Rattle.image.specs.Checking.{checkingChecks, checkingOf}
 use Rattle.image.specs.CheckedLookup.{pass-of-sound}
-use Rattle.image.specs.Lookup.{Found, number, unknown, lookupOf}
-use Rattle.building.specs.Members.{members, startOf}
+use Rattle.image.specs.Lookup.{number, unknown, lookupOf}
+use Rattle.building.specs.Members.{members}
 use Rattle.building.specs.MembersLaws.{start-all, start-before}
 use Rattle.building.specs.Number.{numberOf, tagNumbered}
-use Rattle.building.specs.NumberLaws.{ImageOf, number-below, number-apart, number-onto, AllFill, ownPlace, all-placed, tagNumbered-is}
+use Rattle.building.specs.NumberLaws.{number-below, number-apart, number-onto, AllFill, all-placed, tagNumbered-is}
 use Rattle.building.specs.Building.{sheetOf, seedTaken, choicesTaken, imageOf, tooLarge, seedless, buildingChecks, buildingOf, written, bufferAfter}
 use Rattle.building.specs.BuildingLaws.{image-length, seed-least, taken-fill}
 use Rattle.built.specs.Built.{Reads, InRange, reads-back, built-sound, built-listed, built-unlisted}
-use Rattle.condition3.specs.Condition3.{GroupFills, NothingFills, HasSeed, LowestWithout, EarlierChecks, TagOf, Accepted, Condition3}
+use Rattle.condition3.specs.Condition3.{NothingFills, HasSeed, LowestWithout, EarlierChecks, Accepted, Condition3}
 
 module _ (tags : List ℕ) (groups limit : ℕ) where
   unseeded : (g : ℕ) → seedless groups tags limit g ≡ true → (s : ℕ) → s < limit → NothingFills groups tags g s

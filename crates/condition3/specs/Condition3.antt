@@ -14,7 +14,7 @@ use Rattle.filling.specs.Places.{occurs}
 use Rattle.filling.specs.Filling.{Fills}
 use Rattle.filling.specs.Least.{NotAfter}
 use Rattle.group.specs.Group.{groupUnder}
-use Rattle.image.specs.Lookup.{Found, number, unknown, lookupOf}
+use Rattle.image.specs.Lookup.{number, unknown, lookupOf}
 use Rattle.building.specs.Members.{members, startOf}
 use Rattle.building.specs.Number.{numberOf}
 

@@ -2,7 +2,7 @@
 -- and use none of the record's names but its own. Assumes nothing.
 use mathlib.Core.Path.{_≡_, refl, sym, _∙_}
 use mathlib.Core.Logic.{_↔_}
-use mathlib.Core.Bool.{Bool, true, false, cond}
+use mathlib.Core.Bool.{Bool, true, false}
 use mathlib.Core.List.{List}
 use Prim.Native.Nat.{ℕ, suc, _+_, _*_, _≤_, _<_}
 use native.Mathlib.Omega.{arith}
@@ -15,7 +15,7 @@ use Rattle.filling.specs.Places.{occurs}
 use Rattle.filling.specs.Filling.{Fills}
 use Rattle.filling.specs.Least.{NotAfter}
 use Rattle.group.specs.Group.{groupUnder}
-use Rattle.image.specs.Lookup.{Found, number, unknown, lookupOf}
+use Rattle.image.specs.Lookup.{number, unknown, lookupOf}
 use Rattle.building.specs.Members.{members, startOf}
 use Rattle.building.specs.Number.{placeIn, numberOf}
 use Rattle.condition3.specs.Condition3.{Condition3, Accepted, EarlierChecks}

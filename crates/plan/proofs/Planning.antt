@@ -1,16 +1,14 @@
 -- What the loop over the groups keeps. Assumes nothing.
-use mathlib.Core.Path.{_≡_, refl, sym, _∙_}
-use mathlib.Core.Bool.{true, false}
+use mathlib.Core.Path.{_≡_, refl}
 use mathlib.Core.List.{List}
-use mathlib.Core.Option.{Option, none, some, Option·getD}
-use Prim.Native.Nat.{ℕ, suc, _+_, _-_, _≤_, _<_}
+use mathlib.Core.Option.{none, some}
+use Prim.Native.Nat.{ℕ, _+_, _-_, _≤_, _<_}
 use native.Mathlib.Numerals.{add-one}
 use native.Mathlib.Omega.{arith}
 use lib.ListN.{length, getD, set, take, drop}
 use Rattle.refusal.specs.Outcome.{answered, refused}
 use Rattle.refusal.specs.First.{first, isSome}
 use Rattle.refusal.specs.Search.{Searched, searched-start, searched-turn, searched-found, searched-done}
-use Rattle.group.specs.Group.{leastSeed}
 use Rattle.group.specs.Placing.{Placement, placingOf}
 use Rattle.image.specs.Sheet.{upTo}
 use Rattle.building.specs.Parts.{partStart, partOf}

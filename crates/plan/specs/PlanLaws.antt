@@ -1,8 +1,8 @@
 -- What an answer of placing says of the group's seed. Assumes nothing.
-use mathlib.Core.Path.{_≡_, refl, sym, _∙_, ap}
-use mathlib.Core.Bool.{true, false}
-use mathlib.Core.List.{List, [], _∷_, _++_}
-use mathlib.Core.Option.{Option, none, some, Option·getD}
+use mathlib.Core.Path.{_≡_, refl, sym, _∙_}
+use mathlib.Core.Bool.{false}
+use mathlib.Core.List.{List}
+use mathlib.Core.Option.{Option, none, some}
 use Prim.Native.Nat.{ℕ, suc, _+_, _≤_, _<_}
 use native.Mathlib.Numerals.{add-one}
 use native.Mathlib.Omega.{arith}
@@ -10,17 +10,15 @@ use lib.ListN.{length, getD, set, drop, length-append, length-drop}
 use lib.Seq.{drop-cons, set-at, append-snoc}
 use Rattle.refusal.specs.Limits.{groupMax, limitMax, outside}
 use Rattle.refusal.specs.LimitsLaws.{outside-not}
-use Rattle.refusal.specs.Outcome.{Outcome, answered, refused}
-use Rattle.refusal.specs.First.{isSome}
+use Rattle.refusal.specs.Outcome.{answered, refused}
 use Rattle.group.specs.Group.{leastSeed}
 use Rattle.group.specs.Placing.{Placement, placingOf}
 use Rattle.group.specs.AscendingLaws.{Ascending, check-of-ascending}
 use Rattle.image.specs.Sheet.{upTo}
 use Rattle.image.specs.SheetLaws.{upTo-length, upTo-more}
 use Rattle.building.specs.Parts.{partOf}
-use Rattle.placing.specs.Answer.{placingOutcome}
 use Rattle.placing.specs.PlacingLaws.{placing-unseeded, placing-seeded}
-use Rattle.plan.specs.Plan.{unseeded, partSeed, seedsPlanned, Plannable}
+use Rattle.plan.specs.Plan.{partSeed, seedsPlanned}
 
 -- Placing a part that planning is given is refused for want of a seed only.
 module _ (part : List ℕ) (limit : ℕ) (legal : (1 ≤ limit) × (limit ≤ limitMax)) (few : length part ≤ groupMax) (up : Ascending part) where

@@ -11,14 +11,13 @@ use borrow.Author.Tests.{ltb-true, ltb-false, lt-ltb, le-ltb}
 use Rattle.refusal.specs.Limits.{tagsMax, groupsMax, limitMax, outside}
 use Rattle.refusal.specs.LimitsLaws.{inside}
 use Rattle.refusal.specs.Outcome.{Outcome, answered, refused, answeredBy, followedBy}
-use Rattle.refusal.specs.ChecksLaws.{inOrder-answered}
 use Rattle.text.specs.Line.{lineLength, pairLine}
 use Rattle.text.specs.LineLaws.{pairLine-length}
 use Rattle.list.specs.Reading.{Listed}
 use Rattle.image.specs.Sheet.{imageLength}
 use Rattle.image.specs.SheetLaws.{image-longest}
-use Rattle.building.specs.Building.{imageOf, buildingChecks, buildingOf}
-use Rattle.building.specs.BuildingLaws.{image-length, building-groups, building-limit, building-many, buffer-kept, buffer-written}
+use Rattle.building.specs.Building.{buildingChecks, buildingOf}
+use Rattle.building.specs.BuildingLaws.{image-length, building-groups, building-limit, building-many, buffer-kept, buffer-written, answered-size}
 use Rattle.building.specs.FromText.{listFromText, buildingFromText, bufferOfList, bufferFromText}
 use Rattle.printing.specs.Printing.{imageOfList, outputOf, printed, longestImage, printedCount, printedInto}
 
@@ -48,15 +47,6 @@ building-roomy tags groups limit room enough =
           le-ltb longestImage (imageLength groups (length tags)) (omega (arith, longest-is)),
         )
 
--- What an accepted building answers is the length of the image.
-size-is : (tags : List ℕ) (groups limit room : ℕ) {size : ℕ} → buildingOf tags groups limit room ≡ answered size
-    → length (imageOf groups tags limit) ≡ size
-unfolding buildingOf
-size-is tags groups limit room {size} e =
-    let last = (inOrder-answered (buildingChecks tags groups limit room) (answered (imageLength groups (length tags))) e) .1 in
-    let same : imageLength groups (length tags) ≡ size = cc in
-    image-length groups tags limit ∙ same
-
 -- The output and the buffer, by what is read from the text: building is accepted,
 module _ (before : List ℕ) (enough : longestImage ≤ length before) where
   list-built : (o : Outcome Listed) {size : ℕ}
@@ -69,7 +59,7 @@ module _ (before : List ℕ) (enough : longestImage ≤ length before) where
       let groups = listed .groups in
       let limit = listed .limit in
       let same = sym (building-roomy tags groups limit (length before) enough) ∙ e in
-      rw same (size-is tags groups limit (length before) e, buffer-written tags groups limit before e)
+      rw same (image-length groups tags limit ∙ sym (answered-size tags groups limit (length before) e), buffer-written tags groups limit before e)
   list-built (refused number place) e = absurd (let z : _≡_ {A = ℕ} 0 1 = cc in omega arith)
 
   -- or refuses.

@@ -1,10 +1,9 @@
 -- What the arrays hold once the slots are arranged. Assumes nothing.
-use Prim.Native.Nat.{ℕ, suc, _≤_, _<_}
+use Prim.Native.Nat.{ℕ}
 use mathlib.Core.Path.{_≡_, refl, _∙_}
 use mathlib.Core.List.{List, _++_}
 use native.Mathlib.Omega.{arith}
-use lib.ListN.{length, getD, drop, length-append, List·getD-append}
-use Rattle.refusal.specs.Limits.{tagsMax}
+use lib.ListN.{length, drop, length-append, List·getD-append}
 use Rattle.image.specs.Sheet.{bytesOf}
 use Rattle.building.specs.Parts.{partStart}
 use Rattle.arrange.specs.Arrange.{allSlots}

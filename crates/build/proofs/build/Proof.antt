@@ -1,8 +1,8 @@
 -- `build::build` meets its contract: each branch is one of the ways in which building ends, and Condition 3 follows from the two
 -- equations. Assumes nothing.
-use mathlib.Core.Path.{_≡_, refl, sym, _∙_, ap}
+use mathlib.Core.Path.{sym, _∙_, ap}
 use native.Mathlib.Omega.{arith}
-use Rattle.refusal.specs.Limits.{groupsMax, limitMax}
+use Rattle.refusal.specs.Limits.{groupsMax}
 use Rattle.refusal.specs.LimitsLaws.{inside}
 use Rattle.refusal.specs.Answer.{firstMeaning}
 use Rattle.building.specs.BuildingLaws.{building-groups, building-limit, building-many, building-descends, building-short}

@@ -1,6 +1,6 @@
 -- `build::build_admitted` meets its contract: by the counts, 10 is met where it is met, and what ordering leaves is sorted.
 -- Assumes nothing.
-use mathlib.Core.Path.{_≡_, refl, sym, _∙_, ap}
+use mathlib.Core.Path.{refl, sym, _∙_, ap}
 use native.Mathlib.Omega.{arith}
 use lib.ListN.{length}
 use Rattle.refusal.specs.Limits.{groupsMax}

@@ -1,9 +1,8 @@
 -- `build::build_ordered` meets its contract: where planning finds a seed for every group, what is written is the image. Assumes nothing.
-use mathlib.Core.Path.{_≡_, refl, sym, _∙_, ap}
-use mathlib.Core.List.{List, _++_}
+use mathlib.Core.Path.{refl, sym, _∙_, ap}
+use mathlib.Core.List.{List}
 use Prim.Native.Nat.{ℕ}
-use native.Mathlib.Omega.{arith}
-use lib.ListN.{length, drop}
+use lib.ListN.{length}
 use Rattle.image.specs.Sheet.{bytesOf}
 use Rattle.write.specs.Planned.{plannedSheet}
 use Rattle.plan.specs.PlanLaws.{planned-length}

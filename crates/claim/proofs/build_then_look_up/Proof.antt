@@ -1,6 +1,6 @@
 -- `claim::build_then_look_up` meets its contract: what is looked up in is the image, and there lookup answers what the list says.
 -- Assumes nothing.
-use mathlib.Core.Path.{_≡_, refl, sym, _∙_, ap}
+use mathlib.Core.Path.{sym, _∙_, ap}
 use native.Mathlib.Omega.{arith}
 use lib.Seq.{length-take-le}
 use Rattle.build.specs.Answer.{buildOutcome}

@@ -1,6 +1,6 @@
 -- `plan::plan_seeds` meets its contract: each group that the loop has passed has its least seed. Assumes nothing.
 use borrow.Author.Needs.{needs}
-use mathlib.Core.Path.{_≡_, refl, sym, _∙_, ap}
+use mathlib.Core.Path.{sym, _∙_, ap}
 use Prim.Native.Nat.{_-_}
 use native.Mathlib.Omega.{arith}
 use Rattle.placing.specs.Answer.{placingOutcome}

@@ -1,5 +1,5 @@
 -- `write::write_image` meets its contract: the arrays state the image once the slots are arranged. Assumes nothing.
-use mathlib.Core.Path.{_≡_, _∙_, ap}
+use mathlib.Core.Path.{_∙_}
 use Rattle.write.specs.PlannedLaws.{planned-writable, planned-bytes}
 use borrow.Author.Needs.{needs}
 use Rattle.write.proofs.write_image.Statement.{statement}

@@ -1,5 +1,5 @@
 -- `build::worked::build_without_groups` meets its contract, from the promise of `build`: B = 0 is out of range. Assumes nothing.
-use mathlib.Core.Path.{_≡_, refl, _∙_}
+use mathlib.Core.Path.{_∙_}
 use native.Mathlib.Omega.{arith}
 use Rattle.refusal.specs.Limits.{groupsMax}
 use Rattle.refusal.specs.LimitsLaws.{outside-below}
