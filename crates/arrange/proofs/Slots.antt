@@ -20,7 +20,8 @@ pub record Filled (ordered ends seeds : List ℕ) (groups : ℕ) (before slots :
   pub start-is : start ≡ partStart ends g
   pub cells-are : slots ≡ allSlots ordered ends seeds g ++ drop (partStart ends g) before
 
-module _ {groups : ℕ} {ordered ends seeds before : List ℕ} (a : AllArrangeable groups ordered ends seeds (length before)) where
+module _ {groups : ℕ} {ordered ends seeds words before : List ℕ}
+    (a : AllArrangeable groups ordered ends seeds words (length before)) where
   -- Before the first group the cells are as they were.
   pub filled-start : Filled ordered ends seeds groups before before 0 0
   unfolding partStart
@@ -48,7 +49,7 @@ module _ {groups : ℕ} {ordered ends seeds before : List ℕ} (a : AllArrangeab
       part-in-cells = omega (arith, filled-length, part-in-tags, a .room-enough)
 
       -- It can be arranged into the cells that the code lends.
-      pub part-arrangeable : Arrangeable (take (getD ends g 0 - start) (drop start ordered)) (getD seeds g 0)
+      pub part-arrangeable : Arrangeable (take (getD ends g 0 - start) (drop start ordered)) (getD seeds g 0) (getD words g 0)
           (length (take (getD ends g 0 - start) (drop start slots)))
       part-arrangeable =
           let e = a .each g lt in
@@ -58,6 +59,7 @@ module _ {groups : ℕ} {ordered ends seeds before : List ℕ} (a : AllArrangeab
             seed-legal = e .seed-legal;
             differ = e .differ;
             filled = e .filled;
+            word-is = e .word-is;
             room-is = cells-for;
           }
         where

@@ -7,17 +7,20 @@ use lib.ListN.{length, getD}
 use Rattle.refusal.specs.Limits.{groupMax, seedMax}
 use Rattle.filling.specs.Places.{distinct}
 use Rattle.filling.specs.Least.{feasible}
+use Rattle.filling.specs.Word.{wordOf}
 use Rattle.group.specs.Group.{groupUnder, taken}
 use Rattle.image.specs.Sheet.{upTo}
 use Rattle.building.specs.Parts.{partOf, Parts}
 use Rattle.building.specs.GroupSlots.{groupSlots}
 
--- A group that some sequence fills under the seed, and as many cells as it has tags. The empty group is one.
-pub record Arrangeable (part : List ℕ) (seed room : ℕ) : Type 0 where
+-- A group that some sequence fills under the seed, the word of the sequence taken, and as many cells as there are tags.
+-- The empty group is one.
+pub record Arrangeable (part : List ℕ) (seed word room : ℕ) : Type 0 where
   pub few : length part ≤ groupMax
   pub seed-legal : seed ≤ seedMax
   pub differ : distinct part ≡ true
   pub filled : feasible (groupUnder part seed) ≡ true
+  pub word-is : word ≡ wordOf (taken part seed)
   pub room-is : room ≡ length part
 
 -- The slots of group g, under its seed and the sequence taken.
@@ -30,9 +33,11 @@ slotsOfPart ordered ends seeds g =
 unfoldable pub allSlots : List ℕ → List ℕ → List ℕ → ℕ → List ℕ
 allSlots ordered ends seeds groups = flatten (upTo groups (slotsOfPart ordered ends seeds))
 
--- Parts that can each be arranged under its own seed, and cells for all of them.
-pub record AllArrangeable (groups : ℕ) (ordered ends seeds : List ℕ) (room : ℕ) : Type 0 where
+-- Parts that can each be arranged under its own seed and word, and cells for all of them.
+pub record AllArrangeable (groups : ℕ) (ordered ends seeds words : List ℕ) (room : ℕ) : Type 0 where
   pub parts : Parts groups ordered ends
   pub seeds-known : groups ≤ length seeds
-  pub each : (g : ℕ) → g < groups → Arrangeable (partOf ordered ends g) (getD seeds g 0) (length (partOf ordered ends g))
+  pub words-known : groups ≤ length words
+  pub each : (g : ℕ) → g < groups
+      → Arrangeable (partOf ordered ends g) (getD seeds g 0) (getD words g 0) (length (partOf ordered ends g))
   pub room-enough : length ordered ≤ room

@@ -69,22 +69,22 @@ place-by-number n seed t true = refl
 abbrev pub placeWith : List ℕ → ℕ → ℕ → ℕ
 placeWith part seed i = placeIn part seed (taken part seed) (getD part i 0)
 
-module _ {part : List ℕ} {seed room : ℕ} (a : Arrangeable part seed room) where
+module _ {part : List ℕ} {seed word room : ℕ} (a : Arrangeable part seed word room) where
   -- The sequence taken fills the group.
-  pub arranged-fills : Fills (groupUnder part seed) (taken part seed)
+  arranged-fills : Fills (groupUnder part seed) (taken part seed)
   arranged-fills = let (cs, f) = feasible-fills (groupUnder part seed) (a .filled) in taken-fills part seed cs f
 
   -- It has a choice for each tag.
   choices-whole : length (taken part seed) ≡ length part
   choices-whole = fills-length (length part) seed part arranged-fills
 
-  -- The place of the tag with index i is what the code computes, from the word of the sequence taken.
+  -- The place of the tag with index i is what the code computes, from the word.
   pub place-computed : (i : ℕ) → i < length part
-      → hashed (cond (choiceIn (wordOf (taken part seed)) i) (multiplier seed 1) (multiplier seed 0)) (length part) (getD part i 0)
-      ≡ placeWith part seed i
+      → hashed (cond (choiceIn word i) (multiplier seed 1) (multiplier seed 0)) (length part) (getD part i 0) ≡ placeWith part seed i
   unfolding placeIn
   place-computed i lt =
       rw (
+        a .word-is,
         word-choice (taken part seed) i (omega (arith, choices-whole)),
         choiceOf-at part (taken part seed) i (a .differ) choices-whole lt,
       )

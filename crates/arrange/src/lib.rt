@@ -1,5 +1,4 @@
 // A group's tags put in the order of their places, and the slots of all groups one group's after the other's.
-use sequence::Choices;
 ghost use mathlib.Core.Path.{_≡_};
 ghost use mathlib.Core.Bool.{cond};
 ghost use mathlib.Core.List.{_++_};
@@ -12,9 +11,16 @@ ghost use Rattle.building.specs.GroupSlots.{groupSlots};
 ghost use Rattle.arrange.specs.Arrange.{Arrangeable, AllArrangeable, allSlots};
 
 // Writes the slots of all groups, one group's after the other's; the cells after them stay. Part g of the tags, in the order of the
-// groups, ends at `ends[g]`, and its seed is `seeds[g]`.
-pub fn arrange(ordered: &[u32], ends: &[usize], seeds: &[u32], groups: usize, slots: &mut [u32])
-    requires { ⌜ AllArrangeable groups (now ordered) (now ends) (now seeds) (length (now slots)) ⌝ }
+// groups, ends at `ends[g]`, its seed is `seeds[g]`, and the word of the sequence taken is `words[g]`.
+pub fn arrange(
+    ordered: &[u32],
+    ends: &[usize],
+    seeds: &[u32],
+    words: &[u32],
+    groups: usize,
+    slots: &mut [u32],
+)
+    requires { ⌜ AllArrangeable groups (now ordered) (now ends) (now seeds) (now words) (length (now slots)) ⌝ }
     ensures cells { λ _. ⌜ now (slots .exit) ≡ allSlots (now (ordered .entry)) (now (ends .entry)) (now (seeds .entry)) groups
         ++ drop (partStart (now (ends .entry)) groups) (now (slots .entry)) ⌝ }
 {
@@ -22,21 +28,22 @@ pub fn arrange(ordered: &[u32], ends: &[usize], seeds: &[u32], groups: usize, sl
     let mut g = 0;
     while g < groups {
         let end = ends[g];
-        arrange_group(&ordered[start..end], seeds[g], &mut slots[start..end]);
+        arrange_group(
+            &ordered[start..end],
+            seeds[g],
+            words[g],
+            &mut slots[start..end],
+        );
         start = end;
         g += 1;
     }
 }
 
-// Writes the slots of one group: each tag into the cell of its place, under the seed and the sequence taken.
-pub fn arrange_group(part: &[u32], seed: u32, cells: &mut [u32])
-    requires { ⌜ Arrangeable (now part) seed (length (now cells)) ⌝ }
+// Writes the slots of one group: each tag into the cell of its place, under the seed and the word of the sequence taken.
+pub fn arrange_group(part: &[u32], seed: u32, word: u32, cells: &mut [u32])
+    requires { ⌜ Arrangeable (now part) seed word (length (now cells)) ⌝ }
     ensures cells { λ _. ⌜ now (cells .exit) ≡ groupSlots (now (part .entry)) seed (taken (now (part .entry)) seed) ⌝ }
 {
-    // Some sequence fills, so there is a word.
-    let Choices::Word(word) = sequence::choices_under(part, seed) else {
-        return;
-    };
     let n = part.len() as u32;
     let first = hash::multiplier(seed, 0);
     let second = hash::multiplier(seed, 1);

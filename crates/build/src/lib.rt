@@ -71,8 +71,8 @@ fn build_admitted(tags: &[u32], groups: u32, limit: u32, buffer: &mut [u8]) -> B
     build_ordered(tags, groups, limit, &ordered, &ends, buffer)
 }
 
-// Building from the tags ordered by group, of which none has more than 24. The seeds of all groups are known before the first byte is
-// written.
+// Building from the tags ordered by group, of which none has more than 24. The seeds and words of all groups are known before the
+// first byte is written.
 fn build_ordered(
     tags: &[u32],
     groups: u32,
@@ -86,10 +86,26 @@ fn build_ordered(
     ensures bytes { λ _. ⌜ now (buffer .exit) ≡ bufferAfter (now (tags .entry)) groups limit (now (buffer .entry)) ⌝ }
 {
     let mut seeds = [0; 512];
-    if let First::At(g) = plan::plan_seeds(ordered, ends, groups as usize, limit, &mut seeds) {
+    let mut words = [0; 512];
+    if let First::At(g) = plan::plan_groups(
+        ordered,
+        ends,
+        groups as usize,
+        limit,
+        &mut seeds,
+        &mut words,
+    ) {
         return refuse(Reason::NoSeed, g);
     }
-    write::write_image(ordered, ends, &seeds, groups as usize, tags.len(), buffer);
+    write::write_image(
+        ordered,
+        ends,
+        &seeds,
+        &words,
+        groups as usize,
+        tags.len(),
+        buffer,
+    );
     BuildAnswer::Built(image_length(groups, tags.len()))
 }
 

@@ -1,12 +1,12 @@
--- The seeds of all groups, planned part by part. Assumes nothing.
+-- The seeds and the choice words of all groups, planned part by part. Assumes nothing.
 use mathlib.Core.Bool.{Bool, not}
 use mathlib.Core.List.{List, _++_}
-use mathlib.Core.Option.{Option·getD}
 use Prim.Native.Nat.{ℕ, _≤_, _<_}
 use lib.ListN.{length, drop}
 use Rattle.refusal.specs.Limits.{groupMax, limitMax}
 use Rattle.refusal.specs.First.{isSome}
 use Rattle.group.specs.Group.{leastSeed}
+use Rattle.group.specs.Placing.{placementOf}
 use Rattle.group.specs.AscendingLaws.{Ascending}
 use Rattle.image.specs.Sheet.{upTo}
 use Rattle.building.specs.Parts.{partOf, Parts}
@@ -15,13 +15,23 @@ use Rattle.building.specs.Parts.{partOf, Parts}
 unfoldable pub unseeded : List ℕ → List ℕ → ℕ → ℕ → Bool
 unseeded ordered ends limit g = not (isSome (leastSeed (partOf ordered ends g) limit))
 
--- The least seed for the group's part; 0 where there is none.
+-- The least seed for the group's part, 0 where there is none; and the word of the sequence taken under it.
 unfoldable pub partSeed : List ℕ → List ℕ → ℕ → ℕ → ℕ
-partSeed ordered ends limit g = Option·getD (leastSeed (partOf ordered ends g) limit) 0
+partSeed ordered ends limit g = placementOf (partOf ordered ends g) limit .seed
 
--- The cells with the seeds of the groups below `planned`; the other cells are as they were.
-unfoldable pub seedsPlanned : List ℕ → List ℕ → ℕ → ℕ → List ℕ → List ℕ
-seedsPlanned ordered ends limit planned before = upTo planned (partSeed ordered ends limit) ++ drop planned before
+unfoldable pub partWord : List ℕ → List ℕ → ℕ → ℕ → ℕ
+partWord ordered ends limit g = placementOf (partOf ordered ends g) limit .word
+
+-- The cells with the numbers of the groups below `planned`; the other cells are as they were.
+unfoldable pub cellsPlanned : (ℕ → ℕ) → ℕ → List ℕ → List ℕ
+cellsPlanned number planned before = upTo planned number ++ drop planned before
+
+-- The cells with the seeds, and those with the words.
+abbrev pub seedsPlanned : List ℕ → List ℕ → ℕ → ℕ → List ℕ → List ℕ
+seedsPlanned ordered ends limit = cellsPlanned (partSeed ordered ends limit)
+
+abbrev pub wordsPlanned : List ℕ → List ℕ → ℕ → ℕ → List ℕ → List ℕ
+wordsPlanned ordered ends limit = cellsPlanned (partWord ordered ends limit)
 
 -- What planning is given: a legal limit, and parts of at most 24 tags in ascending order.
 pub record Plannable (groups : ℕ) (ordered ends : List ℕ) (limit : ℕ) : Type 0 where

@@ -1,4 +1,4 @@
--- What an answer of placing says of the group's seed. Assumes nothing.
+-- What an answer of placing says of the group's seed and word, and the cells that hold them. Assumes nothing.
 use mathlib.Core.Path.{_≡_, refl, sym, _∙_}
 use mathlib.Core.Bool.{false}
 use mathlib.Core.List.{List}
@@ -6,34 +6,36 @@ use mathlib.Core.Option.{Option, none, some}
 use Prim.Native.Nat.{ℕ, suc, _+_, _≤_, _<_}
 use native.Mathlib.Numerals.{add-one}
 use native.Mathlib.Omega.{arith}
-use lib.ListN.{length, getD, set, drop, length-append, length-drop}
+use lib.ListN.{length, getD, set, drop, length-append, length-drop, List·getD-append}
 use lib.Seq.{drop-cons, set-at, append-snoc}
 use Rattle.refusal.specs.Limits.{groupMax, limitMax, outside}
 use Rattle.refusal.specs.LimitsLaws.{outside-not}
 use Rattle.refusal.specs.Outcome.{answered, refused}
 use Rattle.group.specs.Group.{leastSeed}
-use Rattle.group.specs.Placing.{Placement, placingOf}
+use Rattle.group.specs.Placing.{Placement, placementOf, placingOf}
 use Rattle.group.specs.AscendingLaws.{Ascending, check-of-ascending}
 use Rattle.image.specs.Sheet.{upTo}
-use Rattle.image.specs.SheetLaws.{upTo-length, upTo-more}
-use Rattle.building.specs.Parts.{partOf}
+use Rattle.image.specs.SheetLaws.{upTo-length, upTo-at, upTo-more}
 use Rattle.placing.specs.PlacingLaws.{placing-unseeded, placing-seeded}
-use Rattle.plan.specs.Plan.{partSeed, seedsPlanned}
+use Rattle.plan.specs.Plan.{cellsPlanned}
 
 -- Placing a part that planning is given is refused for want of a seed only.
 module _ (part : List ℕ) (limit : ℕ) (legal : (1 ≤ limit) × (limit ≤ limitMax)) (few : length part ≤ groupMax) (up : Ascending part) where
   legal-limit : outside 1 limitMax limit ≡ false
   legal-limit = outside-not 1 limitMax limit (legal .0) (legal .1)
 
-  pub placed-seed : {placement : Placement} → placingOf part limit ≡ answered placement → leastSeed part limit ≡ some (placement .seed)
+  pub placed-seed : {placement : Placement} → placingOf part limit ≡ answered placement
+      → (leastSeed part limit ≡ some (placement .seed)) × (placementOf part limit ≡ placement)
+  unfolding placementOf
   placed-seed {placement} e = go (leastSeed part limit) refl
     where
-      go : (o : Option ℕ) → leastSeed part limit ≡ o → o ≡ some (placement .seed)
+      go : (o : Option ℕ) → leastSeed part limit ≡ o
+          → (leastSeed part limit ≡ some (placement .seed)) × (placementOf part limit ≡ placement)
       go none f = absurd (let r = placing-unseeded part limit legal-limit few (check-of-ascending part up) f in let z : _≡_ {A = ℕ} 0 1 = cc in omega arith)
       go (some s) f =
           let r = placing-seeded part limit legal-limit few (check-of-ascending part up) f in
           let same = sym r ∙ e in
-          cc
+          (f ∙ cc, rw f cc)
 
   pub refused-seedless : {number place : ℕ} → placingOf part limit ≡ refused number place → leastSeed part limit ≡ none
   refused-seedless e = go (leastSeed part limit) refl
@@ -43,21 +45,27 @@ module _ (part : List ℕ) (limit : ℕ) (legal : (1 ≤ limit) × (limit ≤ li
       go (some s) f =
           absurd (let r = placing-seeded part limit legal-limit few (check-of-ascending part up) f in let z : _≡_ {A = ℕ} 0 1 = cc in omega arith)
 
--- The cells stay as many as they were.
-pub planned-length : (ordered ends : List ℕ) (limit planned : ℕ) (before : List ℕ) → planned ≤ length before
-    → length (seedsPlanned ordered ends limit planned before) ≡ length before
-unfolding seedsPlanned
-planned-length ordered ends limit planned before known =
-    let seed = partSeed ordered ends limit in
-    omega (arith, length-append (upTo planned seed) (drop planned before), upTo-length planned seed, length-drop planned before)
+module _ (number : ℕ → ℕ) where
+  -- The cells stay as many as they were.
+  pub planned-length : (planned : ℕ) (before : List ℕ) → planned ≤ length before
+      → length (cellsPlanned number planned before) ≡ length before
+  unfolding cellsPlanned
+  planned-length planned before known =
+      omega (arith, length-append (upTo planned number) (drop planned before), upTo-length planned number, length-drop planned before)
 
--- One seed more.
-pub planned-more : (ordered ends : List ℕ) (limit g seed : ℕ) (before seeds : List ℕ) → g < length before
-    → seeds ≡ seedsPlanned ordered ends limit g before → leastSeed (partOf ordered ends g) limit ≡ some seed
-    → set seeds g seed ≡ seedsPlanned ordered ends limit (g + 1) before
-unfolding seedsPlanned partSeed
-planned-more ordered ends limit g seed before seeds lt e found =
-    let front = upTo g (partSeed ordered ends limit) in
-    rw (e, drop-cons before g 0 lt)
-    (set-at front (getD before g 0) (drop (suc g) before) seed g (upTo-length g (partSeed ordered ends limit))
-    ∙ sym (rw (add-one g, upTo-more g (partSeed ordered ends limit), append-snoc) (rw found)))
+  -- A group that is planned has its number.
+  pub planned-at : (planned : ℕ) (before : List ℕ) (g : ℕ) → g < planned
+      → getD (cellsPlanned number planned before) g 0 ≡ number g
+  unfolding cellsPlanned
+  planned-at planned before g lt =
+      List·getD-append (upTo planned number) (drop planned before) 0 g (omega (arith, upTo-length planned number))
+      ∙ upTo-at planned number 0 g lt
+
+  -- One number more.
+  pub planned-more : (g value : ℕ) (before cells : List ℕ) → g < length before → cells ≡ cellsPlanned number g before
+      → number g ≡ value → set cells g value ≡ cellsPlanned number (g + 1) before
+  unfolding cellsPlanned
+  planned-more g value before cells lt e found =
+      rw (e, drop-cons before g 0 lt)
+      (set-at (upTo g number) (getD before g 0) (drop (suc g) before) value g (upTo-length g number)
+      ∙ sym (rw (add-one g, upTo-more g number, append-snoc) (rw found)))

@@ -1,4 +1,4 @@
-// The plan of an image: the seed of every group, found before anything is written.
+// The plan of an image: the seed and the choice word of every group, found before anything is written.
 use placing::PlacingAnswer;
 use refusal::First;
 ghost use mathlib.Core.Path.{_≡_};
@@ -8,30 +8,36 @@ ghost use lib.ListN.{length};
 ghost use Rattle.refusal.specs.Limits.{groupsMax};
 ghost use Rattle.refusal.specs.First.{first};
 ghost use Rattle.refusal.specs.Answer.{firstMeaning};
-ghost use Rattle.plan.specs.Plan.{unseeded, seedsPlanned, Plannable};
+ghost use Rattle.plan.specs.Plan.{unseeded, seedsPlanned, wordsPlanned, Plannable};
 
-// Fills the seeds group by group, each from its own part of the ordered tags, and stops at the lowest group without one.
-pub fn plan_seeds(
+// Fills the seeds and the words group by group, each from its own part of the ordered tags, and stops at the lowest group that has
+// no seed.
+pub fn plan_groups(
     ordered: &[u32],
     ends: &[usize],
     groups: usize,
     limit: u32,
     seeds: &mut [u32; order::GROUP_CELLS],
+    words: &mut [u32; order::GROUP_CELLS],
 ) -> First
-    requires { ⌜ Plannable groups (now ordered) (now ends) limit × (groups ≤ groupsMax) × (length (now seeds) ≡ groupsMax) ⌝ }
+    requires { ⌜ Plannable groups (now ordered) (now ends) limit × (groups ≤ groupsMax)
+        × (length (now seeds) ≡ groupsMax) × (length (now words) ≡ groupsMax) ⌝ }
     ensures answer { λ r. ⌜ firstMeaning r ≡ first (unseeded (now (ordered .entry)) (now (ends .entry)) limit) groups ⌝ }
-    ensures cells { λ r. ⌜ now (seeds .exit) ≡ seedsPlanned (now (ordered .entry)) (now (ends .entry)) limit
+    ensures seeds { λ r. ⌜ now (seeds .exit) ≡ seedsPlanned (now (ordered .entry)) (now (ends .entry)) limit
         (Option·getD (firstMeaning r) groups) (now (seeds .entry)) ⌝ }
+    ensures words { λ r. ⌜ now (words .exit) ≡ wordsPlanned (now (ordered .entry)) (now (ends .entry)) limit
+        (Option·getD (firstMeaning r) groups) (now (words .entry)) ⌝ }
 {
     let mut start = 0;
     let mut g = 0;
     while g < groups {
         let end = ends[g];
-        let PlacingAnswer::Placed(seed, _) = placing::place_group(&ordered[start..end], limit)
+        let PlacingAnswer::Placed(seed, word) = placing::place_group(&ordered[start..end], limit)
         else {
             return First::At(g);
         };
         seeds[g] = seed;
+        words[g] = word;
         start = end;
         g += 1;
     }

@@ -12,9 +12,9 @@ use Rattle.write.specs.Stated.{statedSheet}
 unfoldable pub plannedSheet : List ℕ → List ℕ → List ℕ → ℕ → ℕ → Sheet
 plannedSheet ordered ends seeds groups count = statedSheet ends seeds (allSlots ordered ends seeds groups) groups count
 
--- Each part can be arranged under its seed, the last part ends at N, and the buffer has room.
-pub record Planned (ordered ends seeds : List ℕ) (groups count room : ℕ) : Type 0 where
-  pub arrangeable : AllArrangeable groups ordered ends seeds tagsMax
+-- Each part can be arranged under its seed and its word, the last part ends at N, and the buffer has room.
+pub record Planned (ordered ends seeds words : List ℕ) (groups count room : ℕ) : Type 0 where
+  pub arrangeable : AllArrangeable groups ordered ends seeds words tagsMax
   pub count-is : partStart ends groups ≡ count
   pub few-groups : groups ≤ groupsMax
   pub room-enough : imageLength groups count ≤ room

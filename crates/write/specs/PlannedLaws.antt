@@ -13,7 +13,8 @@ use Rattle.write.specs.Stated.{statedSheet, Writable}
 use Rattle.write.specs.StatedLaws.{bytes-agree}
 use Rattle.write.specs.Planned.{plannedSheet, Planned}
 
-module _ {ordered ends seeds : List ℕ} {groups count room : ℕ} (p : Planned ordered ends seeds groups count room) (before : List ℕ) where
+module _ {ordered ends seeds words : List ℕ} {groups count room : ℕ}
+    (p : Planned ordered ends seeds words groups count room) (before : List ℕ) where
   -- The cells once they are arranged.
   abbrev pub arranged : List ℕ
   arranged = allSlots ordered ends seeds groups ++ drop (partStart ends groups) before

@@ -12,23 +12,24 @@ ghost use Rattle.write.specs.Written.{writtenAt};
 // Every line is ten columns and a line feed.
 const LINE_LENGTH: usize = 11;
 
-// Writes the image of tags that are ordered by group, under the seeds that were planned for the groups: the tags of each group go into
-// the order of their places, and then all lines are written. The bytes after the image stay.
+// Writes the image of tags that are ordered by group, under the seeds and words that were planned for the groups: the tags of each
+// group go into the order of their places, and then all lines are written. The bytes after the image stay.
 pub fn write_image(
     ordered: &[u32],
     ends: &[usize],
     seeds: &[u32],
+    words: &[u32],
     groups: usize,
     count: usize,
     buffer: &mut [u8],
 )
-    requires { ⌜ Planned (now ordered) (now ends) (now seeds) groups count (length (now buffer)) ⌝ }
+    requires { ⌜ Planned (now ordered) (now ends) (now seeds) (now words) groups count (length (now buffer)) ⌝ }
     ensures bytes { λ _. ⌜ now (buffer .exit)
         ≡ bytesOf (plannedSheet (now (ordered .entry)) (now (ends .entry)) (now (seeds .entry)) groups count)
         ++ drop (imageLength groups count) (now (buffer .entry)) ⌝ }
 {
     let mut slots = [0u32; 4096];
-    arrange::arrange(ordered, ends, seeds, groups, &mut slots);
+    arrange::arrange(ordered, ends, seeds, words, groups, &mut slots);
     write_lines(ends, seeds, &slots, groups, count, buffer);
 }
 

@@ -2,34 +2,17 @@
 -- the cells are the group's slots. Assumes nothing.
 use borrow.Author.Needs.{needs}
 use Prim.Native.Nat.{_-_}
-use mathlib.Core.Path.{refl, sym, _∙_, ap}
+use mathlib.Core.Path.{refl, _∙_}
 use lib.ListN.{length}
-use Rattle.sequence.specs.Answer.{choicesMeaning}
-use Rattle.arrange.proofs.Cells.{Arranged, word-answered, word-there, arranged-start, turn-inside, arranged-turn, arranged-done}
+use Rattle.arrange.proofs.Cells.{Arranged, arranged-start, turn-inside, arranged-turn, arranged-done}
 use Rattle.arrange.proofs.arrange_group.Statement.{statement}
 use Rattle.arrange.proofs.arrange_group.Tie as tie
 
 abbrev Inv-loop : tie.InvT-loop
-Inv-loop part seed cells₀ word n first second i₀ cells i = Arranged part seed (length cells₀) word cells i
+Inv-loop part seed word cells₀ n first second i₀ cells i = Arranged part seed (length cells₀) cells i
 
 abbrev μ-loop : tie.MeasureT-loop
-μ-loop part seed cells₀ word n first second i₀ cells i = n - i
-
-choices-under-requires : tie.Need-choices-under-requires Inv-loop μ-loop
-choices-under-requires c κs = search needs
-
-enum-known-word : tie.Need-enum-known-word Inv-loop μ-loop
-enum-known-word c = search needs
-
-enum-told : tie.Need-enum-told Inv-loop μ-loop
-enum-told c = search needs
-
-returns : tie.Need-returns Inv-loop μ-loop
-returns c =
-    let chosen = c .before .before in
-    let a = chosen .before .before .before .pre in
-    let answered = ap choicesMeaning (sym (c .enum-told .given .1)) in
-    absurd (word-there a (chosen .choices-under .result) (chosen .choices-under .ensures) answered)
+μ-loop part seed word cells₀ n first second i₀ cells i = n - i
 
 cast-n : tie.Need-cast-n Inv-loop μ-loop
 cast-n c = search needs
@@ -41,12 +24,7 @@ multiplier-requires-2 : tie.Need-multiplier-requires-2 Inv-loop μ-loop
 multiplier-requires-2 c κs = search needs
 
 loop-holds : tie.Need-loop-holds Inv-loop μ-loop
-loop-holds c =
-    let found = c .before .before .before in
-    let chosen = found .before .before in
-    let a = chosen .before .before .before .pre in
-    let answered = ap choicesMeaning (sym (found .word .given .1)) in
-    arranged-start a _ (word-answered a (chosen .choices-under .result) (chosen .choices-under .ensures) answered) refl
+loop-holds c = arranged-start (c .before .before .before .before .pre) _ refl
 
 cast-tag : tie.Need-cast-tag Inv-loop μ-loop
 cast-tag c = search needs
@@ -72,8 +50,8 @@ mul-cells c = search needs
 slice-write-cells : tie.Need-slice-write-cells Inv-loop μ-loop
 slice-write-cells c =
     let loop = c .before .before .before .before in
-    let entry = loop .before .before .before .before .before .before .before .before in
-    turn-inside (entry .before .pre) (loop .loop .inv) (c .before .before .before .loop-test .taken)
+    let entry = loop .before .before .before .before .before in
+    turn-inside (entry .pre) (loop .loop .inv) (c .before .before .before .loop-test .taken)
     record {
       by-is = c .before .multiplier-at .ensures ∙ rw (loop .before .multiplier2 .ensures, loop .before .before .multiplier .ensures);
       place-is = c .hashed .ensures;
@@ -88,8 +66,8 @@ loop-less c = search needs
 loop-again : tie.Need-loop-again Inv-loop μ-loop
 loop-again c =
     let loop = c .before .before .before .before in
-    let entry = loop .before .before .before .before .before .before .before .before in
-    arranged-turn (entry .before .pre) (loop .loop .inv) (c .before .before .before .loop-test .taken)
+    let entry = loop .before .before .before .before .before in
+    arranged-turn (entry .pre) (loop .loop .inv) (c .before .before .before .loop-test .taken)
     record {
       by-is = c .before .multiplier-at .ensures ∙ rw (loop .before .multiplier2 .ensures, loop .before .before .multiplier .ensures);
       place-is = c .hashed .ensures;
@@ -98,11 +76,11 @@ loop-again c =
 same-length : tie.Need-same-length Inv-loop μ-loop
 same-length c = c .before .loop .inv .long
 
-returns-2 : tie.Need-returns-2 Inv-loop μ-loop
-returns-2 c =
+returns : tie.Need-returns Inv-loop μ-loop
+returns c =
     let loop = c .before in
-    let entry = loop .before .before .before .before .before .before .before .before in
-    arranged-done (entry .before .pre) (loop .loop .inv) (c .loop-test .left)
+    let entry = loop .before .before .before .before .before in
+    arranged-done (entry .pre) (loop .loop .inv) (c .loop-test .left)
 
 pub arrange-group-spec : {M : Type 1} → statement M
 arrange-group-spec =
@@ -110,10 +88,6 @@ arrange-group-spec =
     (tie.spec
     Inv-loop
     μ-loop
-    choices-under-requires
-    enum-known-word
-    enum-told
-    returns
     cast-n
     multiplier-requires
     multiplier-requires-2
@@ -130,4 +104,4 @@ arrange-group-spec =
     loop-less
     loop-again
     same-length
-    returns-2)
+    returns)

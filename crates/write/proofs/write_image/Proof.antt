@@ -17,7 +17,7 @@ slice-aggregate-write-lines c = search needs
 write-lines-requires : tie.Need-write-lines-requires
 write-lines-requires c κs =
     let arranged = c .before .before .before in
-    let start = arranged .before .before .before .before .before .before in
+    let start = arranged .before .before .before .before .before .before .before in
     rw (arranged .arrange .ensures) (planned-writable (start .pre) _)
 
 same-length : tie.Need-same-length
@@ -27,7 +27,7 @@ returns : tie.Need-returns
 returns c =
     let written = c .before .before in
     let arranged = written .before .before .before .before in
-    let start = arranged .before .before .before .before .before .before in
+    let start = arranged .before .before .before .before .before .before .before in
     written .write-lines .ensures ∙ rw (arranged .arrange .ensures, planned-bytes (start .pre) _)
 
 pub write-image-spec : {M : Type 1} → statement M

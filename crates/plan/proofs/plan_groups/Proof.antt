@@ -1,4 +1,5 @@
--- `plan::plan_seeds` meets its contract: each group that the loop has passed has its least seed. Assumes nothing.
+-- `plan::plan_groups` meets its contract: each group that the loop has passed has its least seed, and the word of the sequence taken
+-- under it. Assumes nothing.
 use borrow.Author.Needs.{needs}
 use mathlib.Core.Path.{sym, _∙_, ap}
 use Prim.Native.Nat.{_-_}
@@ -6,19 +7,20 @@ use native.Mathlib.Omega.{arith}
 use Rattle.placing.specs.Answer.{placingOutcome}
 use Rattle.plan.proofs.Planning.{PlannedUpTo, planned-start, part-is, part-follows, part-inside, planned-turn, planned-without, planned-done}
 use borrow.Author.Needs.{needs}
-use Rattle.plan.proofs.plan_seeds.Statement.{statement}
-use Rattle.plan.proofs.plan_seeds.Tie as tie
+use Rattle.plan.proofs.plan_groups.Statement.{statement}
+use Rattle.plan.proofs.plan_groups.Tie as tie
 
 abbrev Inv-loop : tie.InvT-loop
-Inv-loop ordered ends groups limit seeds₀ start₀ g₀ seeds start g = PlannedUpTo groups ordered ends limit seeds₀ seeds start g
+Inv-loop ordered ends groups limit seeds₀ words₀ start₀ g₀ seeds words start g =
+    PlannedUpTo groups ordered ends limit seeds₀ words₀ seeds words start g
 
 abbrev μ-loop : tie.MeasureT-loop
-μ-loop ordered ends groups limit seeds₀ start₀ g₀ seeds start g = groups - g
+μ-loop ordered ends groups limit seeds₀ words₀ start₀ g₀ seeds words start g = groups - g
 
 loop-holds : tie.Need-loop-holds Inv-loop μ-loop
 loop-holds c =
     let a = c .before .before .args in
-    planned-start (a .groups) (a .ordered .now) (a .ends .now) (a .limit) (a .seeds .now)
+    planned-start (a .groups) (a .ordered .now) (a .ends .now) (a .limit) (a .seeds .now) (a .words .now)
 
 mul-end : tie.Need-mul-end Inv-loop μ-loop
 mul-end c = search needs
@@ -70,13 +72,19 @@ returns c =
     let start = loop .before .before .before in
     let outcome = sym (placed .place-group .ensures) ∙ ap placingOutcome (c .enum-told .given .1) in
     let lowest = planned-without (start .pre .0) (loop .loop .inv) (turn .loop-test .taken) (part-is (start .pre .0) (loop .loop .inv) (turn .loop-test .taken)) outcome in
-    (sym lowest, loop .loop .inv .seeds-are)
+    (sym lowest, (loop .loop .inv .seeds-are, loop .loop .inv .words-are))
 
 mul-seeds : tie.Need-mul-seeds Inv-loop μ-loop
 mul-seeds c = search needs
 
 element-write-seeds : tie.Need-element-write-seeds Inv-loop μ-loop
 element-write-seeds c = search needs
+
+mul-words : tie.Need-mul-words Inv-loop μ-loop
+mul-words c = search needs
+
+element-write-words : tie.Need-element-write-words Inv-loop μ-loop
+element-write-words c = search needs
 
 add-g : tie.Need-add-g Inv-loop μ-loop
 add-g c = search needs
@@ -92,8 +100,9 @@ loop-again c =
     let loop = turn .before in
     let start = loop .before .before .before in
     let outcome = sym (placed .place-group .ensures) ∙ ap placingOutcome (told .seed .given .1) in
-    planned-turn (start .pre .0) (loop .loop .inv) (turn .loop-test .taken) (part-is (start .pre .0) (loop .loop .inv) (turn .loop-test .taken)) outcome
-    (omega (arith, start .pre .1, start .pre .2))
+    planned-turn (start .pre .0) (loop .loop .inv) (turn .loop-test .taken)
+    (part-is (start .pre .0) (loop .loop .inv) (turn .loop-test .taken)) outcome
+    (omega (arith, start .pre .1, start .pre .2)) (omega (arith, start .pre .1, start .pre .3))
 
 returns-2 : tie.Need-returns-2 Inv-loop μ-loop
 returns-2 c =
@@ -101,8 +110,8 @@ returns-2 c =
     let done = planned-done (loop .loop .inv) (c .loop-test .left) in
     (sym (done .0), done .1)
 
-pub plan-seeds-spec : {M : Type 1} → statement M
-plan-seeds-spec =
+pub plan-groups-spec : {M : Type 1} → statement M
+plan-groups-spec =
     tie.close
     (tie.spec
     Inv-loop
@@ -120,6 +129,8 @@ plan-seeds-spec =
     returns
     mul-seeds
     element-write-seeds
+    mul-words
+    element-write-words
     add-g
     loop-less
     loop-again
