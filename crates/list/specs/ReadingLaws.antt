@@ -1,26 +1,23 @@
 -- Each way in which reading ends, the tags line by line, and that reading a list text gives back what it states. Assumes nothing.
 use mathlib.Core.Path.{_≡_, refl, sym, _∙_, ap}
-use mathlib.Core.Bool.{Bool, true, false, not, _||_, or-true}
+use mathlib.Core.Bool.{true, false}
 use mathlib.Core.List.{List, [], _∷_, _++_}
-use mathlib.Core.Option.{Option, none, some, Option·getD}
-use Prim.Native.Nat.{ℕ, zero, suc, _+_, _-_, _*_, _/_, _%_, _≤_, _<_}
+use mathlib.Core.Option.{none, some, Option·getD}
+use Prim.Native.Nat.{ℕ, zero, suc, _+_, _%_, _≤_, _<_}
 use native.Mathlib.Omega.{arith}
-use native.Mathlib.Numerals.{add-one}
-use native.Mathlib.Nat.{add-zero, add-suc}
-use lib.Dec.{eqb, ltb}
-use lib.ListN.{length, set, drop, length-append}
-use lib.Seq.{drop-cons, set-at, append-snoc}
-use borrow.Author.Tests.{lt-ltb, le-ltb, ltb-false, eq-eqb, ne-eqb}
+use native.Mathlib.Nat.{add-zero}
+use lib.Dec.{ltb}
+use lib.ListN.{length}
+use borrow.Author.Tests.{lt-ltb, le-ltb, ltb-false, ne-eqb}
 use Rattle.refusal.specs.Limits.{tagsMax}
-use Rattle.refusal.specs.Outcome.{Outcome, answered, refused, answeredBy}
+use Rattle.refusal.specs.Outcome.{answered, refused, answeredBy}
 use Rattle.refusal.specs.OutcomeLaws.{answered-of-by}
-use Rattle.refusal.specs.BoolLaws.{neither-of-or}
 use Rattle.refusal.specs.First.{first, metAt, isSome}
-use Rattle.refusal.specs.FirstLaws.{first-zero, first-found, first-out}
+use Rattle.refusal.specs.FirstLaws.{first-zero}
 use Rattle.refusal.specs.Checks.{met, inOrder}
-use Rattle.refusal.specs.ChecksLaws.{Pass, inOrder-answered, false-of-met}
+use Rattle.refusal.specs.ChecksLaws.{inOrder-answered, false-of-met}
 use Rattle.text.specs.Line.{lineLength, lineAt, listHeader, listLine}
-use Rattle.list.specs.Reading.{Listed, malformed, lineCount, tagCount, tagsFrom, listedIn, readingChecks, readingOf, cellsAfter}
+use Rattle.list.specs.Reading.{malformed, lineCount, tagCount, tagsFrom, listedIn, readingChecks, readingOf}
 use Rattle.list.specs.Answer.{ListHead, headOf}
 
 -- A line by what it reads as.
@@ -55,15 +52,6 @@ tagsFrom-more zero k text = rw add-zero
 tagsFrom-more (suc count) k text =
     let e : k + suc count ≡ suc k + count = omega arith in
     rw (e, tagsFrom-more count (suc k) text)
-
--- One cell more is filled.
-pub cells-more : (i : ℕ) (text before cells : List ℕ) (t : ℕ) → i < length before → cells ≡ tagsFrom i 1 text ++ drop i before
-    → t ≡ Option·getD (listLine (lineAt (i + 1) text)) 0 → set cells i t ≡ tagsFrom (i + 1) 1 text ++ drop (i + 1) before
-cells-more i text before cells t lt e value =
-    let next : 1 + i ≡ i + 1 = omega arith in
-    rw (e, drop-cons before i 0 lt)
-    (set-at (tagsFrom i 1 text) _ (drop (suc i) before) t i (tagsFrom-length i 1 text)
-    ∙ rw (add-one i, tagsFrom-more i 1 text, append-snoc, ← add-one i) (rw (value, next)))
 
 -- The ways in which reading ends, in the order of its checks.
 module _ (text : List ℕ) (cells : ℕ) where
@@ -106,29 +94,18 @@ pub head-is : (text : List ℕ) {b l : ℕ} → listHeader (lineAt 0 text) ≡ s
 unfolding headOf listedIn
 head-is text e = rw (e, tagsFrom-length (tagCount text) 1 text)
 
--- What follows from an accepted reading.
+-- What follows from an accepted reading: the count that it answers, and that there is a cell for each tag.
 pub record ReadAs (text : List ℕ) (cells : ℕ) (head : ListHead) : Type 0 where
-  pub outcome : readingOf text cells ≡ answered (listedIn text)
   pub count-is : head .count ≡ tagCount text
   pub room : tagCount text ≤ cells
-  pub few : tagCount text ≤ tagsMax
-  pub lines : lineLength * (1 + tagCount text) ≤ length text
-
-lines-fit : (text : List ℕ) → lineLength ≤ length text → lineLength * (1 + tagCount text) ≤ length text
-unfolding tagCount lineCount
-lines-fit text long = omega arith
 
 pub read-as : (text : List ℕ) (cells : ℕ) {head : ListHead} → answeredBy headOf (readingOf text cells) ≡ answered head → ReadAs text cells head
 unfolding readingOf readingChecks listedIn headOf
 read-as text cells {head} e =
     let (listed, outcome, same) = answered-of-by headOf (readingOf text cells) e in
     let ((short, (well, (many, (narrow, end)))), answer) = inOrder-answered (readingChecks text cells) (answered (listedIn text)) outcome in
-    let long : lineLength ≤ length text = ltb-false (length text) lineLength ((neither-of-or (ltb (length text) lineLength) (not (eqb (length text % lineLength) 0)) (false-of-met (ltb (length text) lineLength || not (eqb (length text % lineLength) 0)) short)) .0) in
     let is : listedIn text ≡ listed = cc in
     record {
-      outcome = outcome ∙ sym answer;
       count-is = ap (λ (h : ListHead). h .count) (sym same ∙ ap headOf (sym is)) ∙ tagsFrom-length (tagCount text) 1 text;
       room = ltb-false cells (tagCount text) (false-of-met (ltb cells (tagCount text)) narrow);
-      few = ltb-false tagsMax (tagCount text) (false-of-met (ltb tagsMax (tagCount text)) many);
-      lines = lines-fit text long;
     }
