@@ -1,5 +1,5 @@
 -- The laws of `bitAt` and `setBit`: which bits are set, how many, and that a set bit is an `or`. Assumes nothing.
-use Prim.Native.Nat.{ℕ, zero, suc, _+_, _*_, _/_, _%_, _^_, _≤_, _<_}
+use Prim.Native.Nat.{ℕ, zero, suc, _+_, _*_, _/_, _%_, _^_, _≤_, _<_, max}
 use mathlib.Core.Path.{_≡_, refl, _∙_, ap}
 use native.Mathlib.Nat.{pow-suc, max-zero, max-eq-right, one-mul}
 use native.Mathlib.Omega.{arith}
@@ -75,6 +75,20 @@ setBit-or w (suc p) =
     let d : 2 ^ suc p / 2 ≡ 2 ^ p = omega (arith, pow-suc 2 p) in
     let m : 2 ^ suc p % 2 ≡ 0 = omega (arith, pow-suc 2 p) in
     or-step w (2 ^ suc p) ∙ rw (d, m, max-zero, setBit-or (w / 2) p)
+
+-- A bit set in one of two words is set in their `or`.
+pub or-setBit : (w v p : ℕ) → bitOr (setBit w p) v ≡ setBit (bitOr w v) p
+unfolding setBit
+or-setBit w v zero =
+    let one : (w / 2 * 2 + 1) / 2 ≡ w / 2 = omega arith in
+    let half : (bitOr (w / 2) (v / 2) * 2 + max (w % 2) (v % 2)) / 2 ≡ bitOr (w / 2) (v / 2) = omega arith in
+    let odd : max ((w / 2 * 2 + 1) % 2) (v % 2) ≡ 1 = omega arith in
+    or-step (w / 2 * 2 + 1) v ∙ rw (one, odd, or-step w v, half)
+or-setBit w v (suc p) =
+    let half : (bitOr (w / 2) (v / 2) * 2 + max (w % 2) (v % 2)) / 2 ≡ bitOr (w / 2) (v / 2) = omega arith in
+    let low : (bitOr (w / 2) (v / 2) * 2 + max (w % 2) (v % 2)) % 2 ≡ max (w % 2) (v % 2) = omega arith in
+    let bit : (setBit (w / 2) p * 2 + w % 2) % 2 ≡ w % 2 = omega arith in
+    or-step (setBit (w / 2) p * 2 + w % 2) v ∙ rw (set-half w p, bit, or-setBit (w / 2) (v / 2) p, or-step w v, half, low)
 
 -- A word of k bits stays one.
 pub setBit-below : (k w p : ℕ) → w < 2 ^ k → p < k → setBit w p < 2 ^ k

@@ -1,106 +1,105 @@
--- The candidate places of tags, written into an array tag by tag. Assumes nothing.
-use Prim.Native.Nat.{ℕ, suc, _+_, _*_, _≤_, _<_}
-use mathlib.Core.Path.{_≡_, refl, sym, _∙_, ap}
-use mathlib.Core.List.{List, [], _∷_, _++_, append-assoc}
-use native.Mathlib.Numerals.{add-one}
+-- Places laid into an array, and read. Assumes nothing.
+use Prim.Native.Nat.{ℕ, zero, suc, _+_, _*_, _≤_, _<_}
+use mathlib.Core.Path.{_≡_, refl, _∙_, ap}
+use mathlib.Core.Bool.{Bool, true, false}
+use mathlib.Core.List.{List, [], _∷_, _++_, map, append-assoc}
+use native.Mathlib.Nat.{zero-add}
 use native.Mathlib.Omega.{arith}
-use lib.ListN.{length, getD, take, drop, set, length-append, length-drop}
-use lib.Seq.{take-suc, drop-cons, set-at, append-snoc, length-take-le, take-length}
-use Rattle.hash.specs.Formula.{placeOf}
-use Rattle.filling.specs.Filling.{Key}
-use Rattle.group.specs.Group.{bothPlaces, candidates}
-use Rattle.group.specs.GroupLaws.{candidates-length}
-use Rattle.candidates.specs.Array.{placesOf}
+use lib.ListN.{length, getD, take, drop, length-map, List·getD-map, List·getD-append}
+use lib.Seq.{paste, length-paste, length-paste-head, length-take-le, getD-append-add, getD-take}
+use Rattle.refusal.specs.Limits.{groupMax}
+use Rattle.hash.specs.Formula.{hashed, multiplier, placeOf}
+use Rattle.filling.specs.Filling.{Key, placeBy}
+use Rattle.filling.specs.Word.{choiceNumber}
+use Rattle.group.specs.Group.{bothPlaces, candidates, groupUnder}
+use Rattle.group.specs.GroupLaws.{group-size}
+use Rattle.candidates.specs.Array.{placesBy, laidInto}
 
--- Two entries for each key.
-pub placesOf-length : (keys : List Key) → length (placesOf keys) ≡ 2 * length keys
-unfolding placesOf
-placesOf-length [] = refl
-placesOf-length (key ∷ keys) = omega (arith, placesOf-length keys)
+-- One place for each key.
+placesBy-length : (choice : Bool) (keys : List Key) → length (placesBy choice keys) ≡ length keys
+unfolding placesBy
+placesBy-length choice keys = length-map keys (placeBy choice)
 
--- Keys one after another in an array.
-pub placesOf-append : (keys more : List Key) → placesOf (keys ++ more) ≡ placesOf keys ++ placesOf more
-unfolding placesOf
-placesOf-append [] more = refl
-placesOf-append (key ∷ keys) more = rw (placesOf-append keys more)
+-- The place with index i is the one that the choice takes of key i.
+placesBy-at : (choice : Bool) (keys : List Key) (i : ℕ) → i < length keys
+    → getD (placesBy choice keys) i 0 ≡ placeBy choice (getD keys i (0, 0))
+unfolding placesBy
+placesBy-at choice [] i lt = absurd (omega arith)
+placesBy-at choice (key ∷ keys) zero lt = refl
+placesBy-at choice (key ∷ keys) (suc i) lt = placesBy-at choice keys i (omega arith)
 
--- The candidates of one tag more.
-candidates-append : (n s : ℕ) (tags more : List ℕ) → candidates n s (tags ++ more) ≡ candidates n s tags ++ candidates n s more
-unfolding candidates
-candidates-append n s [] more = refl
-candidates-append n s (t ∷ tags) more = rw (candidates-append n s tags more)
+-- Under one choice, the candidate places of tags are the tags hashed by the choice's multiplier.
+pub placesBy-hashed : (choice : Bool) (n s : ℕ) (tags : List ℕ)
+    → map (hashed (multiplier s (choiceNumber choice)) n) tags ≡ placesBy choice (candidates n s tags)
+unfolding placesBy candidates bothPlaces placeBy placeOf choiceNumber
+placesBy-hashed choice n s [] = refl
+placesBy-hashed false n s (t ∷ tags) = rw (placesBy-hashed false n s tags)
+placesBy-hashed true n s (t ∷ tags) = rw (placesBy-hashed true n s tags)
 
--- The two entries of one tag.
-pair-of : (n s t : ℕ) → placeOf n s 0 t ∷ placeOf n s 1 t ∷ [] ≡ placesOf (candidates n s (t ∷ []))
-unfolding candidates bothPlaces placesOf
-pair-of n s t = refl
+-- What is read from the pasted part,
+paste-inside : (d : List ℕ) (at : ℕ) (s : List ℕ) (n i : ℕ) → at ≤ length d → n ≤ length s → i < n
+    → getD (paste d at s n) (at + i) 0 ≡ getD s i 0
+paste-inside d at s n i room long lt =
+    let head = length-paste-head d at s n room long in
+    List·getD-append (take at d ++ take n s) (drop (at + n) d) 0 (at + i) (omega arith)
+    ∙ (rw (length-take-le at d room) at (getD-append-add (take at d) (take n s) i 0))
+    ∙ getD-take n s i 0 lt
 
--- Two entries written after a written part are two entries more of it.
-written-pair : (written before : List ℕ) (m x y : ℕ) → length written ≡ m → m + 1 < length before
-    → set (set (written ++ drop m before) m x) (m + 1) y ≡ written ++ (x ∷ y ∷ drop (m + 2) before)
-written-pair written before m x y l lt =
-    let one : drop m before ≡ getD before m 0 ∷ drop (suc m) before = drop-cons before m 0 (omega arith) in
-    let two : drop (suc m) before ≡ getD before (suc m) 0 ∷ drop (suc (suc m)) before = drop-cons before (suc m) 0 (omega arith) in
-    let rest = drop (suc (suc m)) before in
-    let more : length (written ++ (x ∷ [])) ≡ m + 1 = omega (arith, length-append written (x ∷ [])) in
-    let e : m + 2 ≡ suc (suc m) = omega arith in
-    rw (
-      one,
-      two,
-      set-at written (getD before m 0) (getD before (suc m) 0 ∷ rest) x m l,
-      ← append-snoc written x (getD before (suc m) 0 ∷ rest),
-      set-at (written ++ (x ∷ [])) (getD before (suc m) 0) rest y (m + 1) more,
-      append-snoc written x (y ∷ rest),
-      e,
-    )
+-- and from before it.
+paste-before : (d : List ℕ) (at : ℕ) (s : List ℕ) (n i : ℕ) → at ≤ length d → n ≤ length s → i < at
+    → getD (paste d at s n) i 0 ≡ getD d i 0
+paste-before d at s n i room long lt =
+    let head = length-paste-head d at s n room long in
+    let size = length-take-le at d room in
+    List·getD-append (take at d ++ take n s) (drop (at + n) d) 0 i (omega arith)
+    ∙ List·getD-append (take at d) (take n s) 0 i (omega arith)
+    ∙ getD-take at d i 0 lt
 
--- The array with the candidate places of the first i tags written over what was there before.
-unfoldable pub writtenUpTo : ℕ → ℕ → List ℕ → List ℕ → ℕ → List ℕ
-writtenUpTo n s tags before i = placesOf (candidates n s (take i tags)) ++ drop (2 * i) before
+module _ (keys : List Key) (before : List ℕ) (few : length keys ≤ groupMax) (cells : length before ≡ 2 * groupMax) where
+  firsts-length : length (paste before 0 (placesBy false keys) (length keys)) ≡ 2 * groupMax
+  firsts-length =
+      length-paste before 0 (placesBy false keys) (length keys) (omega arith) (omega (arith, placesBy-length false keys)) ∙ cells
 
-module _ (n s : ℕ) (tags before : List ℕ) where
-  -- Before the first tag nothing is written.
-  pub written-start : before ≡ writtenUpTo n s tags before 0
-  unfolding writtenUpTo candidates placesOf
-  written-start = refl
+  -- As many cells as before.
+  pub laidInto-length : length (laidInto keys before) ≡ 2 * groupMax
+  unfolding laidInto
+  laidInto-length =
+      length-paste (paste before 0 (placesBy false keys) (length keys)) groupMax (placesBy true keys) (length keys)
+      (omega (arith, firsts-length)) (omega (arith, placesBy-length true keys))
+      ∙ firsts-length
 
-  -- Each turn writes the two candidate places of one tag.
-  pub written-turn : (i x y : ℕ) → i < length tags → 2 * i + 1 < length before
-      → x ≡ placeOf n s 0 (getD tags i 0) → y ≡ placeOf n s 1 (getD tags i 0)
-      → set (set (writtenUpTo n s tags before i) (2 * i) x) (2 * i + 1) y ≡ writtenUpTo n s tags before (i + 1)
-  unfolding writtenUpTo
-  written-turn i x y lt room first second =
-      let part = placesOf (candidates n s (take i tags)) in
-      written-pair part before (2 * i) x y long room
-      ∙ (sym (append-assoc part (x ∷ y ∷ []) (drop (2 * i + 2) before)) ∙ rw (grown, next))
-    where
-      long : length (placesOf (candidates n s (take i tags))) ≡ 2 * i
-      long = rw (placesOf-length, candidates-length, length-take-le i tags (omega arith))
+  -- Cell i has the first place of key i,
+  pub laidInto-first : (i : ℕ) → i < length keys → getD (laidInto keys before) i 0 ≡ placeBy false (getD keys i (0, 0))
+  unfolding laidInto
+  laidInto-first i lt =
+      let firsts = paste before 0 (placesBy false keys) (length keys) in
+      let inside = paste-inside before 0 (placesBy false keys) (length keys) i (omega arith) (omega (arith, placesBy-length false keys)) lt in
+      paste-before firsts groupMax (placesBy true keys) (length keys) i (omega (arith, firsts-length))
+      (omega (arith, placesBy-length true keys)) (omega arith)
+      ∙ (rw (zero-add i) at inside)
+      ∙ placesBy-at false keys i lt
 
-      next : 2 * i + 2 ≡ 2 * (i + 1)
-      next = omega arith
+  -- and cell 24 + i the second.
+  pub laidInto-second : (i : ℕ) → i < length keys → getD (laidInto keys before) (groupMax + i) 0 ≡ placeBy true (getD keys i (0, 0))
+  unfolding laidInto
+  laidInto-second i lt =
+      let firsts = paste before 0 (placesBy false keys) (length keys) in
+      paste-inside firsts groupMax (placesBy true keys) (length keys) i (omega (arith, firsts-length))
+      (omega (arith, placesBy-length true keys)) lt
+      ∙ placesBy-at true keys i lt
 
-      pair : x ∷ y ∷ [] ≡ placesOf (candidates n s (getD tags i 0 ∷ []))
-      pair = rw (first, second) (pair-of n s (getD tags i 0))
+-- The places of a group's tags under a seed, in an array.
+module _
+    (tags : List ℕ) (s : ℕ) (before : List ℕ) {places : List ℕ} (few : length tags ≤ groupMax) (cells : length before ≡ 2 * groupMax)
+    (laid : places ≡ laidInto (groupUnder tags s) before) where
+  fewKeys : length (groupUnder tags s) ≤ groupMax
+  fewKeys = omega (arith, group-size tags s)
 
-      grown : placesOf (candidates n s (take i tags)) ++ (x ∷ y ∷ []) ≡ placesOf (candidates n s (take (i + 1) tags))
-      grown =
-          rw (
-            pair,
-            ← placesOf-append (candidates n s (take i tags)) (candidates n s (getD tags i 0 ∷ [])),
-            ← candidates-append n s (take i tags) (getD tags i 0 ∷ []),
-            ← take-suc tags i 0 lt,
-            add-one i,
-          )
+  pub group-cells : length places ≡ 2 * groupMax
+  group-cells = rw laid (laidInto-length (groupUnder tags s) before fewKeys cells)
 
-  -- After the last, all are.
-  pub written-done : writtenUpTo n s tags before (length tags) ≡ placesOf (candidates n s tags) ++ drop (2 * length tags) before
-  unfolding writtenUpTo
-  written-done = rw (take-length tags)
+  pub group-first : (i : ℕ) → i < length tags → getD places i 0 ≡ placeBy false (getD (groupUnder tags s) i (0, 0))
+  group-first i lt = rw laid (laidInto-first (groupUnder tags s) before fewKeys cells i (omega (arith, group-size tags s)))
 
-  module _ {after : List ℕ} (written : after ≡ placesOf (candidates n s tags) ++ drop (2 * length tags) before) where
-    -- The array keeps its length.
-    pub written-length : 2 * length tags ≤ length before → length after ≡ length before
-    written-length le =
-        ap length written
-        ∙ simp (length-append, length-drop) (omega (arith, placesOf-length (candidates n s tags), candidates-length n s tags))
+  pub group-second : (i : ℕ) → i < length tags → getD places (groupMax + i) 0 ≡ placeBy true (getD (groupUnder tags s) i (0, 0))
+  group-second i lt = rw laid (laidInto-second (groupUnder tags s) before fewKeys cells i (omega (arith, group-size tags s)))

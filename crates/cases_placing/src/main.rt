@@ -21,12 +21,14 @@ fn place(tags: &[u32], limit: u32) {
     report::words(b"\n");
 }
 
-// Groups that a mistaken search gets wrong: a chain that passes a tag twice; an eviction that does not end with the least sequence;
-// a least sequence that is not the numerically least word; a tag with equal places; an insertion that needs every eviction.
+// Groups that a mistaken search gets wrong: two chains that pass a tag twice; an eviction that does not end with the least sequence;
+// two least sequences that are not the numerically least word; a tag with equal places; an insertion that needs every eviction.
 fn traps() {
     place(&[0, 2, 3044110112], 9);
+    place(&[81, 134, 298, 325], 1);
     place(&[14, 337764173, 964266638, 2787973142], 9);
     place(&[599, 1193], 1);
+    place(&[1, 2, 12], 1);
     place(&[24, 1445023297], 1);
     place(&[6, 8, 33, 37, 39, 55], 99);
     place(&[61, 152], 1);

@@ -43,11 +43,11 @@ occupant keys s = getD (s .occupants) (goal keys s) 0
 unfoldable pub start : ℕ → ℕ → State
 start places cells = record { occupants = replicate places 0; choices = replicate cells 0; seated = 0; moving = 0; left = allowance 0 }
 
--- The place is free: the moving key takes it, and the next key is inserted.
-unfoldable pub seatKey : List Key → State → State
-seatKey keys s = record {
+-- The place is free: the moving key takes it, and the next key is to be inserted, by either choice.
+unfoldable pub seatKey : List Key → ℕ → State → State
+seatKey keys choice s = record {
   occupants = set (s .occupants) (goal keys s) (s .moving + 1);
-  choices = s .choices;
+  choices = set (s .choices) (s .seated + 1) choice;
   seated = s .seated + 1;
   moving = s .seated + 1;
   left = allowance (s .seated + 1);
@@ -69,7 +69,8 @@ evictKey keys s =
 -- The states that bounded cuckoo insertion comes to.
 pub data Reached (keys : List Key) : State → Type 0 where
   started : (places cells : ℕ) → EachCandidate (λ x. x < places) keys → length keys ≤ cells → Reached keys (start places cells)
-  seats : {s : State} → Reached keys s → s .seated < length keys → occupant keys s ≡ 0 → Reached keys (seatKey keys s)
+  seats : {s : State} (choice : ℕ) → choice < 2 → Reached keys s → s .seated < length keys → occupant keys s ≡ 0
+      → Reached keys (seatKey keys choice s)
   evicts : {s : State} → Reached keys s → s .seated < length keys → (occupant keys s ≡ 0 → ⊥) → 0 < s .left
       → Reached keys (evictKey keys s)
 

@@ -19,7 +19,7 @@ use native.Mathlib.Nat.{eq-or-lt-of-le}
 use native.Mathlib.Omega.{arith}
 use lib.Dec.{eqb, ltb}
 use lib.ListN.{length, getD, set, take, replicate, length-set, length-map, length-replicate, getD-replicate, List·getD-map, List·getD-eq-default}
-use lib.Seq.{getD-set-same, getD-set-other, getD-take, length-take-le}
+use lib.Seq.{getD-set-same, getD-set-other, set-out, getD-take, length-take-le}
 use borrow.Author.Tests.{eqb-true, eqb-false, eq-eqb, ltb-true, ltb-false}
 use Rattle.filling.specs.Filling.{Key, placeBy, Fills}
 use Rattle.filling.specs.FillingLaws.{placeAt, EachCandidate, fills-apart, apart-fills}
@@ -127,10 +127,10 @@ potential-enter keys cs s e =
     rw e (potentialOf-enter (test (s .seated)) (s .seated) (count test (s .seated)) (count-most test (s .seated)))
 
 -- Key i has place v.
-record Has (keys : List Key) (s : State) (i v : ℕ) : Type 0 where
-  upto : i ≤ s .seated
-  still : i ≢ s .moving
-  place : v ≡ placeUnder keys (s .choices) i
+pub record Has (keys : List Key) (s : State) (i v : ℕ) : Type 0 where
+  pub upto : i ≤ s .seated
+  pub still : i ≢ s .moving
+  pub place : v ≡ placeUnder keys (s .choices) i
 
 -- What holds of every state that is reached.
 record Invariant (keys : List Key) (s : State) : Type 0 where
@@ -149,12 +149,26 @@ record Invariant (keys : List Key) (s : State) : Type 0 where
   enough : (cs : List Bool) → FirstApart keys (suc (s .seated)) cs → potential keys cs s ≤ s .left
 
 -- Every cell of a list of zeros is 0, and past its end 0 is read too.
-replicate-zero : (m i : ℕ) → _≡_ {A = ℕ} (getD (replicate m 0) i 0) 0
+pub replicate-zero : (m i : ℕ) → _≡_ {A = ℕ} (getD (replicate m 0) i 0) 0
 replicate-zero m i = go (ltb i m) refl
   where
     go : (b : Bool) → ltb i m ≡ b → _≡_ {A = ℕ} (getD (replicate m 0) i 0) 0
     go true e = getD-replicate m i 0 0 (ltb-true i m e)
     go false e = List·getD-eq-default (replicate m 0) 0 (omega (arith, length-replicate {A = ℕ} m 0, ltb-false i m e))
+
+-- The choice of one key is set: the places of the others stay,
+set-place : (keys : List Key) (choices : List ℕ) (o i c : ℕ) → i ≢ o → placeUnder keys (set choices o c) i ≡ placeUnder keys choices i
+unfolding placeUnder
+set-place keys choices o i c other = rw (getD-set-other choices o i c 0 other)
+
+-- and all choices are 0 or 1, if this one is.
+set-two : (choices : List ℕ) (o i c : ℕ) → c < 2 → getD choices i 0 < 2 → getD (set choices o c) i 0 < 2
+set-two choices o i c two was = go (equal-or-not i o) (ltb o (length choices)) refl
+  where
+    go : (i ≡ o) ⊎ (i ≢ o) → (b : Bool) → ltb o (length choices) ≡ b → getD (set choices o c) i 0 < 2
+    go (inl same) true e = rw (same, getD-set-same choices o c 0 (ltb-true o (length choices) e)) two
+    go (inl same) false e = rw (set-out choices o c (ltb-false o (length choices) e)) was
+    go (inr other) b e = rw (getD-set-other choices o i c 0 other) was
 
 invariant-start : (keys : List Key) (places cells : ℕ) → EachCandidate (λ x. x < places) keys → length keys ≤ cells
     → Invariant keys (start places cells)
@@ -226,25 +240,25 @@ module _ {keys : List Key} {s : State} (inv : Invariant keys s) (more : s .seate
           (next .from i (has .upto) (λ z. other (has .place ∙ sym (inv .who (goal keys s) i z .place))))
 
   -- The place was free.
-  invariant-seat : occupant keys s ≡ 0 → Invariant keys (seatKey keys s)
+  invariant-seat : (choice : ℕ) → choice < 2 → occupant keys s ≡ 0 → Invariant keys (seatKey keys choice s)
   unfolding seatKey
-  invariant-seat free = record {
-    sits = next-sits (seatKey keys s) next;
-    who = next-who (seatKey keys s) next;
-    two = inv .two;
+  invariant-seat choice two free = record {
+    sits = next-sits (seatKey keys choice s) next;
+    who = next-who (seatKey keys choice s) next;
+    two = λ i. set-two (s .choices) (s .seated + 1) i choice two (inv .two i);
     among = omega arith;
     upto = omega arith;
     last = λ e. e;
-    room = λ i lt choice. simp length-set (inv .room i lt choice);
-    cells = inv .cells;
+    room = λ i lt c. simp length-set (inv .room i lt c);
+    cells = simp length-set (inv .cells);
     allowed = omega arith;
-    enough = λ cs apart. potential-enter keys cs (seatKey keys s) refl;
+    enough = λ cs apart. potential-enter keys cs (seatKey keys choice s) refl;
   }
     where
-      next : Next (seatKey keys s)
+      next : Next (seatKey keys choice s)
       next = record {
         occupants = refl;
-        kept = λ i other. refl;
+        kept = λ i other. set-place keys (s .choices) (s .seated + 1) i choice other;
         into = λ i le other. (omega arith, λ e. omega arith);
         from = λ i le other. (omega arith, λ e. omega arith);
       }
@@ -274,19 +288,8 @@ module _ {keys : List Key} {s : State} (inv : Invariant keys s) (more : s .seate
   turned-here =
       getD-set-same (s .choices) evicted (1 - getD (s .choices) evicted 0) 0 (omega (arith, evicted-has .upto, inv .cells))
 
-  turned-there : (i : ℕ) → i ≢ evicted → getD turned i 0 ≡ getD (s .choices) i 0
-  turned-there i other = getD-set-other (s .choices) evicted i (1 - getD (s .choices) evicted 0) 0 other
-
   turned-place : (i : ℕ) → i ≢ evicted → placeUnder keys turned i ≡ placeUnder keys (s .choices) i
-  unfolding placeUnder
-  turned-place i other = rw (turned-there i other)
-
-  turned-two : (i : ℕ) → getD turned i 0 < 2
-  turned-two i = go (equal-or-not i evicted)
-    where
-      go : (i ≡ evicted) ⊎ (i ≢ evicted) → getD turned i 0 < 2
-      go (inl same) = rw (same, turned-here) (omega arith)
-      go (inr other) = rw (turned-there i other) (inv .two i)
+  turned-place i other = set-place keys (s .choices) evicted i (1 - getD (s .choices) evicted 0) other
 
   -- Where the moving key agrees with a sequence its occupant does not: they would take one place,
   evicted-differs : (cs : List Bool) → FirstApart keys (suc (s .seated)) cs
@@ -324,7 +327,7 @@ module _ {keys : List Key} {s : State} (inv : Invariant keys s) (more : s .seate
   invariant-evict some = record {
     sits = next-sits inv more (evictKey keys s) next;
     who = next-who inv more (evictKey keys s) next;
-    two = turned-two;
+    two = λ i. set-two (s .choices) evicted i (1 - getD (s .choices) evicted 0) (omega arith) (inv .two i);
     among = evicted-has .upto;
     upto = inv .upto;
     last = λ e. absurd (omega arith);
@@ -345,7 +348,7 @@ module _ {keys : List Key} {s : State} (inv : Invariant keys s) (more : s .seate
 -- What is reached has the invariant.
 reached-invariant : {keys : List Key} {s : State} → Reached keys s → Invariant keys s
 reached-invariant {keys} (started places cells below fits) = invariant-start keys places cells below fits
-reached-invariant (seats r more free) = invariant-seat (reached-invariant r) more free
+reached-invariant (seats choice two r more free) = invariant-seat (reached-invariant r) more choice two free
 reached-invariant (evicts r more full some) = invariant-evict (reached-invariant r) more full some
 
 module _ {keys : List Key} {s : State} (r : Reached keys s) where
@@ -367,6 +370,15 @@ module _ {keys : List Key} {s : State} (r : Reached keys s) where
 
   pub reached-seated : s .seated ≤ length keys
   reached-seated = reached-invariant r .upto
+
+  pub reached-who : (v i : ℕ) → getD (s .occupants) v 0 ≡ i + 1 → Has keys s i v
+  reached-who v i e = reached-invariant r .who v i e
+
+  pub reached-cells : length keys ≤ length (s .choices)
+  reached-cells = reached-invariant r .cells
+
+  pub reached-goal : s .seated < length keys → goal keys s < length (s .occupants)
+  reached-goal more = goal-inside (reached-invariant r) more
 
   pub reached-left : s .left ≤ allowance (s .seated)
   reached-left = reached-invariant r .allowed
@@ -431,13 +443,13 @@ unfolding seatKey evictKey
 ends-chain keys d rest zero s r e out =
     let more : s .seated < length keys = omega arith in
     ⊎-elim
-    (λ free. rest (seatKey keys s) (seats r more free) (omega arith))
+    (λ free. rest (seatKey keys 0 s) (seats 0 (omega arith) r more free) (omega arith))
     (λ full. gaveUp s (record { reached = r; unfinished = more; taken = full; spent = out }))
     (equal-or-not (occupant keys s) 0)
 ends-chain keys d rest (suc l) s r e some =
     let more : s .seated < length keys = omega arith in
     ⊎-elim
-    (λ free. rest (seatKey keys s) (seats r more free) (omega arith))
+    (λ free. rest (seatKey keys 0 s) (seats 0 (omega arith) r more free) (omega arith))
     (λ full. ends-chain keys d rest l (evictKey keys s) (evicts r more full (omega arith)) e (omega arith))
     (equal-or-not (occupant keys s) 0)
 

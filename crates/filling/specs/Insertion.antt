@@ -70,3 +70,16 @@ module _ (place : ℕ → Bool → ℕ) where
     pub upto : displaced ≤ k
     pub apart : SeparateBut k c displaced
     pub agreement : (f : ℕ → Bool) → Separate (suc k) f → f k ≡ before k → Agreement f before c k displaced left
+
+  -- A place that one of the keys below k had before.
+  abbrev pub Taken : ℕ → (ℕ → Bool) → ℕ → Type 0
+  Taken k before v = (o : ℕ) × (o < k) × (place o (before o) ≡ v)
+
+  -- What an insertion keeps so that the occupants from before it suffice: a key that moved, other than the displaced one, has a
+  -- place that was taken before, and the place of each key that is not where it was has a key that moved.
+  pub record Walk (k : ℕ) (before c : ℕ → Bool) (displaced : ℕ) : Type 0 where
+    pub upto : displaced ≤ k
+    pub moved : Moved k before c displaced
+    pub settled : (i : ℕ) → i ≤ k → Moved k before c i → (i ≡ displaced → ⊥) → Taken k before (place i (c i))
+    pub refilled : (i : ℕ) → i < k → (c i ≡ before i → ⊥)
+        → (g : ℕ) × (g ≤ k) × Moved k before c g × (g ≡ displaced → ⊥) × (place g (c g) ≡ place i (before i))

@@ -10,7 +10,7 @@ use lib.Dec.{eqb}
 use borrow.Author.Tests.{eq-eqb, ne-eqb}
 use Rattle.filling.specs.Weight.{choiceWeight, total}
 use Rattle.filling.specs.WeightLaws.{total-same, total-count, total-less}
-use Rattle.filling.specs.Insertion.{distance, Toggled, Moved, Separate, SeparateBut, Lightest, LightestWith, NoneWith, Occupies, Unoccupied, Agreement, Insertion}
+use Rattle.filling.specs.Insertion.{distance, Toggled, Moved, Separate, SeparateBut, Lightest, LightestWith, NoneWith, Occupies, Unoccupied, Agreement, Insertion, Taken, Walk}
 
 -- A choice that is not another is that other, toggled.
 other-choice : (a b : Bool) → (a ≡ b → ⊥) → not a ≡ b
@@ -296,6 +296,107 @@ module _ (place : ℕ → Bool → ℕ) where
         let agreement = insertion .agreement f all e in
         let still = eviction-left all agreement (insertion .upto) o occupies (toggle c o) (toggle-toggled c o) in
         omega arith
+
+    -- Nor does one where the occupant is a key that moved.
+    pub insertion-returned : (g : ℕ) → Occupies place c k displaced g → Moved k before c g → NoneWith place k (before k)
+    insertion-returned g occupies moved f all e = go moved
+      where
+        agreement : Agreement place f before c k displaced left
+        agreement = insertion .agreement f all e
+
+        go : Moved k before c g → ⊥
+        go (inl same) = omega (arith, occupant-below all agreement (insertion .upto) g occupies)
+        go (inr m) = m (occupant-before all agreement (insertion .upto) g occupies)
+
+  -- Before the insertion nothing moved.
+  pub walk-start : (k : ℕ) (c : ℕ → Bool) → Walk place k c c k
+  walk-start k c = record {
+    upto = omega arith;
+    moved = inl refl;
+    settled = λ i le m n. absurd (unmoved i m n);
+    refilled = λ i lt m. absurd (m refl);
+  }
+    where
+      unmoved : (i : ℕ) → Moved k c c i → (i ≡ k → ⊥) → ⊥
+      unmoved i (inl e) n = n e
+      unmoved i (inr m) n = m refl
+
+  module _ {k : ℕ} {before c : ℕ → Bool} {displaced : ℕ} (walk : Walk place k before c displaced) where
+    -- A place that was free is free.
+    pub walk-free : (Taken place k before (place displaced (c displaced)) → ⊥) → Unoccupied place c k displaced
+    walk-free free o le other same = go (ℕ-discrete o k) (Bool-discrete (c o) (before o))
+      where
+        settled : Moved k before c o → ⊥
+        settled m = let (i, li, e) = walk .settled o le m other in free (i, li, e ∙ same)
+
+        go : Dec (o ≡ k) → Dec (c o ≡ before o) → ⊥
+        go (yes e) d = settled (inl e)
+        go (no n) (no m) = settled (inr m)
+        go (no n) (yes e) = free (o, omega (arith, n), sym (ap (place o) e) ∙ same)
+
+    module _ (o : ℕ) (below : o < k) (had : place o (before o) ≡ place displaced (c displaced)) where
+      -- The key that had the place has it still, if it did not move;
+      pub walk-occupied : c o ≡ before o → Occupies place c k displaced o
+      walk-occupied e = record { within = omega arith; other = other (walk .moved); same = ap (place o) e ∙ had }
+        where
+          other : Moved k before c displaced → o ≡ displaced → ⊥
+          other (inl p) q = omega arith
+          other (inr m) q = m (rw (← q) e)
+
+      -- if it did, another key that moved has it.
+      pub walk-returned : (c o ≡ before o → ⊥) → (g : ℕ) × Occupies place c k displaced g × Moved k before c g
+      walk-returned m =
+          let (g, lg, moved, other, same) = walk .refilled o below m in
+          (g, record { within = lg; other = other; same = same ∙ had }, moved)
+
+      -- An eviction of a key that did not move.
+      pub walk-turn : (d : ℕ → Bool) → c o ≡ before o → Toggled c d o → Walk place k before d o
+      walk-turn d e toggled = record {
+        upto = omega arith;
+        moved = inr moves;
+        settled = λ i le m n. settled′ i le (earlier i n m) n (ℕ-discrete i displaced);
+        refilled = λ i lt m. refilled′ i lt m (ℕ-discrete i o);
+      }
+        where
+          occupies : Occupies place c k displaced o
+          occupies = walk-occupied e
+
+          moves : d o ≡ before o → ⊥
+          moves z = toggled-differs (c o) (sym (toggled .here) ∙ z ∙ sym e)
+
+          earlier : (i : ℕ) → (i ≡ o → ⊥) → Moved k before d i → Moved k before c i
+          earlier i n (inl z) = inl z
+          earlier i n (inr m) = inr (λ z. m (toggled .others i n ∙ z))
+
+          later : (i : ℕ) → (i ≡ o → ⊥) → Moved k before c i → Moved k before d i
+          later i n (inl z) = inl z
+          later i n (inr m) = inr (λ z. m (sym (toggled .others i n) ∙ z))
+
+          still : (i : ℕ) → (i ≡ o → ⊥) → place i (d i) ≡ place i (c i)
+          still i n = ap (place i) (toggled .others i n)
+
+          settled′ : (i : ℕ) → i ≤ k → Moved k before c i → (i ≡ o → ⊥) → Dec (i ≡ displaced)
+              → Taken place k before (place i (d i))
+          settled′ i le m n (yes z) = (o, below, rw (still i n, z) had)
+          settled′ i le m n (no z) = rw (still i n) (walk .settled i le m z)
+
+          apart : (g : ℕ) → Moved k before c g → g ≡ o → ⊥
+          apart g (inl z) q = omega arith
+          apart g (inr m) q = m (rw q e)
+
+          displaced-apart : displaced ≡ o → ⊥
+          displaced-apart z = occupies .other (sym z)
+
+          refilled′ : (i : ℕ) → i < k → (d i ≡ before i → ⊥) → Dec (i ≡ o)
+              → (g : ℕ) × (g ≤ k) × Moved k before d g × (g ≡ o → ⊥) × (place g (d g) ≡ place i (before i))
+          refilled′ i lt m (yes z) =
+              let free = displaced-apart in
+              let same : place displaced (d displaced) ≡ place i (before i) = still displaced free ∙ rw z (sym had) in
+              (displaced, walk .upto, later displaced free (walk .moved), free, same)
+          refilled′ i lt m (no n) =
+              let (g, lg, moved, other, same) = walk .refilled i lt (λ z. m (toggled .others i n ∙ z)) in
+              let free = apart g moved in
+              (g, lg, later g free moved, free, still g free ∙ same)
 
   module _ (weight : ℕ → ℕ) where
     -- No key: every sequence is the lightest.

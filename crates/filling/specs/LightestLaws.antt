@@ -1,7 +1,7 @@
 -- The lightest sequence is the least: where the weights of the keys and the order of choices meet. Assumes nothing.
-use Prim.Native.Nat.{ℕ, _≤_}
-use mathlib.Core.Path.{_≡_, refl, sym, _∙_}
-use mathlib.Core.Bool.{Bool}
+use Prim.Native.Nat.{ℕ, suc, _≤_, _<_}
+use mathlib.Core.Path.{_≡_, refl, sym, _∙_, ap}
+use mathlib.Core.Bool.{Bool, true, false}
 use mathlib.Core.List.{List}
 use mathlib.Core.Option.{Option, none, some}
 use native.Mathlib.Omega.{arith}
@@ -10,9 +10,9 @@ use Rattle.filling.specs.Filling.{Key, placeBy, Fills}
 use Rattle.filling.specs.FillingLaws.{apart-fills, fills-apart}
 use Rattle.filling.specs.Least.{least}
 use Rattle.filling.specs.LeastLaws.{least-only, least-fills}
-use Rattle.filling.specs.Weight.{keyWeight, total, byIndex}
-use Rattle.filling.specs.WeightLaws.{weight-notAfter}
-use Rattle.filling.specs.Insertion.{Separate, Lightest}
+use Rattle.filling.specs.Weight.{keyWeight, choiceWeight, total, byIndex}
+use Rattle.filling.specs.WeightLaws.{total-same, weight-notAfter, weight-gap, weight-same}
+use Rattle.filling.specs.Insertion.{Separate, Lightest, LightestWith, Taken}
 
 -- The place that a choice takes of the key with index i in a list.
 abbrev pub placeIn : List Key → ℕ → Bool → ℕ
@@ -41,3 +41,37 @@ none-least keys nothing = go (least keys) refl
     go : (o : Option (List Bool)) → least keys ≡ o → o ≡ none
     go none e = refl
     go (some cs) e = absurd (nothing (byIndex cs) (fills-apart keys cs (least-fills keys e)))
+
+-- Where the first place of key k is taken and its second is free, the lightest choices of the keys before it and its second place
+-- are the lightest: with key k at its first place a key before it has another choice, and the choices of those keys then weigh more
+-- by at least twice what key k does. This holds for these weights, not for any.
+pub second-place-lightest : (place : ℕ → Bool → ℕ) (k : ℕ) → k ≤ 31 → (before c : ℕ → Bool) → Lightest place keyWeight k before
+    → ((i : ℕ) → i < k → before i ≡ c i) → c k ≡ true → Taken place k before (place k false)
+    → LightestWith place keyWeight k true c
+    → Lightest place keyWeight (suc k) c
+unfolding total choiceWeight
+second-place-lightest place k few before c light same last (o, lo, had) own = record {
+  separate = own .separate;
+  lightest = λ f all. go f all (f k) refl;
+}
+  where
+    level : total keyWeight before k ≡ total keyWeight c k
+    level = total-same keyWeight keyWeight before c k (λ i lt. refl) same
+
+    go : (f : ℕ → Bool) → Separate place (suc k) f → (b : Bool) → f k ≡ b
+        → total keyWeight c (suc k) ≤ total keyWeight f (suc k)
+    go f all true e = own .lightest f all e
+    go f all false e =
+        rw (last, e) (omega (arith, level, weight-gap before f k few heavier))
+      where
+        fewer : total keyWeight before k ≤ total keyWeight f k
+        fewer = light .lightest f (λ i j li lj z. all i j (omega arith) (omega arith) z)
+
+        moved : total keyWeight before k ≡ total keyWeight f k → ⊥
+        moved z =
+            let kept = weight-same before f k (omega arith) z o lo in
+            let clash = all o k (omega arith) (omega arith) (sym (ap (place o) kept) ∙ had ∙ sym (ap (place k) e)) in
+            omega arith
+
+        heavier : total keyWeight before k < total keyWeight f k
+        heavier = omega (arith, fewer, moved)

@@ -4,11 +4,11 @@ use mathlib.Core.Path.{_≡_, refl, sym, _∙_, ap}
 use mathlib.Core.Bool.{Bool, true, false}
 use mathlib.Core.List.{List, [], _∷_}
 use native.Mathlib.Nat.{two-pow-succ}
-use native.Mathlib.Decide.{ℕ-discrete}
+use native.Mathlib.Decide.{ℕ-discrete, decLt}
 use native.Mathlib.Numerals.{add-one}
 use native.Mathlib.Omega.{arith}
 use lib.ListN.{length}
-use lib.Pow.{pow-mono}
+use lib.Pow.{pow-mono, pow-pos}
 use Rattle.filling.specs.Least.{NotAfter}
 use Rattle.filling.specs.Weight.{keyWeight, choiceWeight, total, byIndex}
 
@@ -128,3 +128,72 @@ pub weight-notAfter : (cs ds : List Bool) → length cs ≡ length ds → length
 weight-notAfter cs ds l few le =
     halving-order 32 cs ds l few
     (omega (arith, keyWeight-halving (byIndex cs) (length cs), keyWeight-halving (byIndex ds) (length ds)))
+
+-- A key weighs twice what the next does, and something.
+keyWeight-next : (n : ℕ) → n < 31 → keyWeight n ≡ 2 * keyWeight (suc n)
+unfolding keyWeight
+keyWeight-next n lt =
+    let e : 31 - n ≡ suc (31 - suc n) = omega arith in
+    rw e (omega (arith, two-pow-succ (31 - suc n)))
+
+keyWeight-positive : (i : ℕ) → 0 < keyWeight i
+unfolding keyWeight
+keyWeight-positive i = pow-pos (31 - i)
+
+-- One choice more keeps a difference of half, and equal sums differ as the choices do.
+gap-step : (p q : Bool) (x y w half : ℕ) → w ≡ 2 * half → (x < y → x + 2 * w ≤ y) → (y < x → y + 2 * w ≤ x)
+    → x + choiceWeight p w < y + choiceWeight q w → x + choiceWeight p w + 2 * half ≤ y + choiceWeight q w
+unfolding choiceWeight
+gap-step p q x y w half e less more lt = go (decLt x y) (decLt y x) p q lt
+  where
+    go : Dec (x < y) → Dec (y < x) → (p q : Bool) → x + choiceWeight p w < y + choiceWeight q w
+        → x + choiceWeight p w + 2 * half ≤ y + choiceWeight q w
+    go (yes a) b p q lt = omega (arith, less a, choice-most p w)
+    go (no a) (yes b) p q lt = absurd (omega (arith, more b, choice-most q w))
+    go (no a) (no b) false false lt = absurd (omega (arith, a, b))
+    go (no a) (no b) false true lt = omega (arith, a, b)
+    go (no a) (no b) true false lt = absurd (omega (arith, a, b))
+    go (no a) (no b) true true lt = absurd (omega (arith, a, b))
+
+-- What n choices weigh is a multiple of twice the next key's weight: what is heavier is heavier by that at least.
+pub weight-gap : (c d : ℕ → Bool) (n : ℕ) → n ≤ 31 → total keyWeight c n < total keyWeight d n
+    → total keyWeight c n + 2 * keyWeight n ≤ total keyWeight d n
+unfolding total
+weight-gap c d zero le lt = absurd (omega arith)
+weight-gap c d (suc n) le lt =
+    gap-step (c n) (d n) (total keyWeight c n) (total keyWeight d n) (keyWeight n) (keyWeight (suc n))
+    (keyWeight-next n (omega arith)) (weight-gap c d n (omega arith)) (weight-gap d c n (omega arith)) lt
+
+-- So choices that weigh the same are the same.
+choice-same : (p q : Bool) (w : ℕ) → 0 < w → choiceWeight p w ≡ choiceWeight q w → p ≡ q
+unfolding choiceWeight
+choice-same false false w pos e = refl
+choice-same false true w pos e = absurd (omega arith)
+choice-same true false w pos e = absurd (omega arith)
+choice-same true true w pos e = refl
+
+sum-same : (c d : ℕ → Bool) (n : ℕ) → n ≤ 31 → total keyWeight c (suc n) ≡ total keyWeight d (suc n)
+    → total keyWeight c n ≡ total keyWeight d n
+unfolding total
+sum-same c d n le e = go (decLt (total keyWeight c n) (total keyWeight d n)) (decLt (total keyWeight d n) (total keyWeight c n))
+  where
+    go : Dec (total keyWeight c n < total keyWeight d n) → Dec (total keyWeight d n < total keyWeight c n)
+        → total keyWeight c n ≡ total keyWeight d n
+    go (yes a) b =
+        absurd (omega (arith, weight-gap c d n le a, choice-most (c n) (keyWeight n), keyWeight-positive n))
+    go (no a) (yes b) =
+        absurd (omega (arith, weight-gap d c n le b, choice-most (d n) (keyWeight n), keyWeight-positive n))
+    go (no a) (no b) = omega (arith, a, b)
+
+pub weight-same : (c d : ℕ → Bool) (n : ℕ) → n ≤ 32 → total keyWeight c n ≡ total keyWeight d n
+    → (i : ℕ) → i < n → c i ≡ d i
+unfolding total
+weight-same c d zero le e i lt = absurd (omega arith)
+weight-same c d (suc n) le e i lt = go (ℕ-discrete i n) (λ below. weight-same c d n (omega arith) level i below)
+  where
+    level : total keyWeight c n ≡ total keyWeight d n
+    level = sum-same c d n (omega arith) e
+
+    go : Dec (i ≡ n) → (i < n → c i ≡ d i) → c i ≡ d i
+    go (yes z) earlier = rw z (choice-same (c n) (d n) (keyWeight n) (keyWeight-positive n) (omega (arith, level)))
+    go (no z) earlier = earlier (omega (arith, z))

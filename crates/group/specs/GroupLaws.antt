@@ -9,6 +9,7 @@ use lib.ListN.{length, getD, length-map}
 use Rattle.refusal.specs.FirstLaws.{some-of-isSome, first-some, first-none, first-found, first-out, first-more}
 use Rattle.filling.specs.Places.{distinct}
 use Rattle.hash.specs.Formula.{placeOf}
+use Rattle.hash.specs.FormulaLaws.{place-below}
 use Rattle.filling.specs.Filling.{placeBy, chosen, Fills}
 use Rattle.filling.specs.FillingLaws.{EachCandidate}
 use Rattle.filling.specs.Word.{choiceNumber}
@@ -36,6 +37,15 @@ pub each-candidate : (P : ℕ → Type 0) (n s : ℕ) (tags : List ℕ)
 each-candidate P n s tags each i lt choice =
     let below : i < length tags = omega (arith, candidates-length n s tags) in
     rw (candidate-place n s tags i choice below) (each i (choiceNumber choice) below)
+
+-- n tags have their n pairs of candidate places below n.
+pub group-size : (tags : List ℕ) (s : ℕ) → length (groupUnder tags s) ≡ length tags
+group-size tags s = candidates-length (length tags) s tags
+
+pub group-below : (tags : List ℕ) (s : ℕ) → EachCandidate (λ x. x < length tags) (groupUnder tags s)
+group-below tags s =
+    each-candidate (λ x. x < length tags) (length tags) s tags
+    (λ i c lt. place-below (length tags) s c (getD tags i 0) (omega arith))
 
 -- A sequence that fills has a choice for each tag.
 pub fills-length : (n s : ℕ) (tags : List ℕ) {cs : List Bool} → Fills (candidates n s tags) cs → length cs ≡ length tags

@@ -1,20 +1,15 @@
 -- What the steps of weighted insertion answer, over an array of places and a word. Assumes nothing.
 use Prim.Native.Nat.{ℕ, _+_, _^_, _<_}
+use mathlib.Core.Path.{_≡_}
 use mathlib.Core.Bool.{Bool}
 use mathlib.Core.List.{List}
 use Rattle.filling.specs.Weight.{keyWeight}
-use Rattle.filling.specs.Insertion.{Separate, Lightest, LightestWith, NoneWith, Occupies, Unoccupied}
+use Rattle.filling.specs.Insertion.{Separate, Lightest, LightestWith, NoneWith}
 use Rattle.insertion.specs.Entry.{entryOf}
 use Rattle.insertion.specs.WordBits.{choiceIn}
+use Rattle.insertion.specs.Occupants.{Occupied}
 use Rattle.insertion.specs.declared.Inserted.{Inserted}
 use Rattle.insertion.specs.declared.Inserted.the-variants.{Word, Nothing}
-use Rattle.insertion.specs.declared.Occupant.{Occupant}
-use Rattle.insertion.specs.declared.Occupant.the-variants as occupant
-
--- The occupant of the displaced key's place among the keys 0 to k, or that there is none.
-abbrev pub OccupantIs : List ℕ → ℕ → ℕ → ℕ → Occupant → Type 0
-OccupantIs places word k displaced (occupant.Key o) = Occupies (entryOf places) (choiceIn word) k displaced o
-OccupantIs places word k displaced occupant.Nothing = Unoccupied (entryOf places) (choiceIn word) k displaced
 
 -- A word of as many bits as there are keys that is the lightest.
 pub record LightestWord (places : List ℕ) (count word : ℕ) : Type 0 where
@@ -35,3 +30,8 @@ InsertedIs places k word Nothing = NoneWith (entryOf places) k (choiceIn word k)
 abbrev pub WithKeyIs : List ℕ → ℕ → Inserted → Type 0
 WithKeyIs places k (Word result) = LightestWord places (k + 1) result
 WithKeyIs places k Nothing = (n : ℕ) → k < n → (f : ℕ → Bool) → Separate (entryOf places) n f → ⊥
+
+-- The cells then: the occupants under the word answered; as they were before where there is none.
+abbrev pub CellsAre : List ℕ → ℕ → Inserted → List ℕ → List ℕ → Type 0
+CellsAre places k (Word result) before cells = Occupied places result (k + 1) cells
+CellsAre places k Nothing before cells = cells ≡ before

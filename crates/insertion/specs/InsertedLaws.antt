@@ -1,75 +1,120 @@
 -- The steps of weighted insertion, over an array of places and a word: a law for each step of the code. Assumes nothing.
-use Prim.Native.Nat.{ℕ, suc, _+_, _-_, _^_, _<_}
+use Prim.Native.Nat.{ℕ, suc, _+_, _-_, _^_, _≤_, _<_}
 use mathlib.Core.Path.{_≡_, refl, sym, _∙_, ap}
 use mathlib.Core.Bool.{Bool, true, false, cond}
 use mathlib.Core.List.{List}
-use mathlib.Core.Logic.{_⊎_, inl, inr}
-use native.Mathlib.Decide.{ℕ-discrete}
 use native.Mathlib.Numerals.{add-one}
 use native.Mathlib.Omega.{arith}
 use lib.Dec.{ltb}
+use lib.ListN.{getD, set}
 use borrow.Author.Tests.{ltb-true, ltb-false}
+use Rattle.refusal.specs.Limits.{groupMax}
 use Rattle.bits.specs.Bit.{setBit}
+use Rattle.filling.specs.Word.{choiceNumber}
 use Rattle.filling.specs.Weight.{keyWeight, choiceWeight, total}
-use Rattle.filling.specs.Insertion.{Lightest, NoneWith, Occupies, Unoccupied, Insertion}
-use Rattle.filling.specs.InsertionLaws.{insertion-start, insertion-turn, insertion-done, insertion-stuck, lighter-lightest, only-lightest, neither-separate, lightest-same}
-use Rattle.insertion.specs.Entry.{entryOf}
+use Rattle.filling.specs.Insertion.{Lightest, NoneWith, Occupies, Insertion, Walk}
+use Rattle.filling.specs.InsertionLaws.{insertion-start, insertion-turn, insertion-done, insertion-stuck, insertion-returned, walk-start, walk-free, walk-occupied, walk-returned, walk-turn, lighter-lightest, only-lightest, neither-separate, lightest-same}
+use Rattle.filling.specs.LightestLaws.{second-place-lightest}
+use Rattle.insertion.specs.Entry.{entryOf, Candidates}
+use Rattle.insertion.specs.EntryLaws.{entry-other, entry-part}
 use Rattle.insertion.specs.WordBits.{choiceIn, toggleBit}
-use Rattle.insertion.specs.WordBitsLaws.{toggle-below, toggle-toggled, choice-past, choice-set, choice-kept}
+use Rattle.insertion.specs.WordBitsLaws.{choiceNumber-same, toggle-below, toggle-toggled, choice-past, choice-set, choice-kept, word-grown, set-grown}
 use Rattle.insertion.specs.WordWeight.{wordWeight, lighterOf}
+use Rattle.insertion.specs.Occupants.{Occupied}
+use Rattle.insertion.specs.OccupantsLaws.{occupied-same, free-untaken, cell-taken, occupied-more}
 use Rattle.insertion.specs.Inserted.{LightestWord, LightestWordWith, InsertedIs, WithKeyIs}
 use Rattle.insertion.specs.declared.Inserted.{Inserted}
 use Rattle.insertion.specs.declared.Inserted.the-variants.{Word, Nothing}
 
--- The search for an occupant: none of the keys below i but the displaced one takes the place.
-abbrev pub Passed : (ℕ → ℕ) → ℕ → ℕ → ℕ → Type 0
-Passed takes displaced place i = (o : ℕ) → o < i → (o ≡ displaced → ⊥) → takes o ≡ place → ⊥
-
-pub passed-turn : (takes : ℕ → ℕ) (displaced place i : ℕ) → Passed takes displaced place i
-    → (i ≡ displaced) ⊎ (takes i ≡ place → ⊥) → Passed takes displaced place (i + 1)
-passed-turn takes displaced place i passed this o lt other same = go (ℕ-discrete o i) this
-  where
-    go : Dec (o ≡ i) → (i ≡ displaced) ⊎ (takes i ≡ place → ⊥) → ⊥
-    go (no n) this = passed o (omega (arith, n)) other same
-    go (yes e) (inl d) = other (e ∙ d)
-    go (yes e) (inr free) = free (ap takes (sym e) ∙ same)
-
 module _ (places : List ℕ) where
-  -- The state of an insertion of key k into a word.
-  pub record Inserting (k word choices displaced left : ℕ) : Type 0 where
+  -- The state of an insertion of key k into a word: the displaced key is on its way to a place.
+  pub record Inserting (k word choices place left : ℕ) : Type 0 where
     pub below : choices < 2 ^ (k + 1)
+    pub displaced : ℕ
+    pub going : entryOf places displaced (choiceIn choices displaced) ≡ place
     pub insertion : Insertion (entryOf places) k (choiceIn word) (choiceIn choices) displaced left
+    pub walk : Walk (entryOf places) k (choiceIn word) (choiceIn choices) displaced
 
   pub inserting-start : (k word : ℕ) → word < 2 ^ (k + 1) → Lightest (entryOf places) keyWeight k (choiceIn word)
-      → Inserting k word word k k
+      → Inserting k word word (entryOf places k (choiceIn word k)) k
   inserting-start k word below light = record {
     below = below;
+    displaced = k;
+    going = refl;
     insertion = insertion-start (entryOf places) k (choiceIn word) (light .separate);
+    walk = walk-start (entryOf places) k (choiceIn word);
   }
 
-  module _ {k word choices displaced left : ℕ} (state : Inserting k word choices displaced left) where
-    -- An eviction toggles the occupant's choice.
-    pub inserting-turn : (o : ℕ) → Occupies (entryOf places) (choiceIn choices) k displaced o
-        → Inserting k word (toggleBit choices o) o (left - 1)
-    inserting-turn o occupies = record {
-      below = toggle-below (k + 1) choices o (state .below) (omega (arith, occupies .within));
-      insertion =
-          insertion-turn (entryOf places) (state .insertion) (choiceIn (toggleBit choices o)) o occupies
-          (toggle-toggled choices o);
-    }
+  module _ {k word choices place left : ℕ} (state : Inserting k word choices place left) where
+    -- The place is a candidate place, so it has a cell.
+    pub inserting-within : Candidates places (k + 1) → place < groupMax
+    inserting-within all =
+        let d = state .displaced in
+        rw (state .going) at (all .below d (omega (arith, state .walk .upto)) (choiceIn choices d))
 
-    -- At a free place the insertion is done.
-    pub inserting-done : Lightest (entryOf places) keyWeight k (choiceIn word)
-        → Unoccupied (entryOf places) (choiceIn choices) k displaced → InsertedIs places k word (Word choices)
-    inserting-done light free = record {
-      below = state .below;
-      lightest = insertion-done (entryOf places) (state .insertion) keyWeight light free;
-    }
+    -- The cells are those from before the insertion.
+    module _ {cells : List ℕ} (occupied : Occupied places word k cells) where
+      -- At a free place the insertion is done.
+      pub inserting-done : Lightest (entryOf places) keyWeight k (choiceIn word) → getD cells place 0 ≡ 0
+          → InsertedIs places k word (Word choices)
+      inserting-done light free = record {
+        below = state .below;
+        lightest =
+            insertion-done (entryOf places) (state .insertion) keyWeight light
+            (walk-free (entryOf places) (state .walk) (rw (state .going) (free-untaken places occupied place free)));
+      }
 
-    -- With no eviction left at an occupied one, nothing separates the keys.
-    pub inserting-stuck : (o : ℕ) → Occupies (entryOf places) (choiceIn choices) k displaced o → left ≡ 0
-        → InsertedIs places k word Nothing
-    inserting-stuck o occupies out = insertion-stuck (entryOf places) (state .insertion) o occupies out
+      -- Another place has an occupant: the key that has it under the word, and is one of those before k.
+      module _ (o : ℕ) (cell : getD cells place 0 ≡ o + 1) where
+        occupant-below : o < k
+        occupant-below = occupied .who place o cell .0
+
+        had : entryOf places o (choiceIn word o) ≡ place
+        had = occupied .who place o cell .1
+
+        goes : entryOf places o (choiceIn word o)
+            ≡ entryOf places (state .displaced) (choiceIn choices (state .displaced))
+        goes = had ∙ sym (state .going)
+
+        -- Where it has moved since, nothing separates the keys.
+        pub inserting-returned : (choiceNumber (choiceIn choices o) ≡ choiceNumber (choiceIn word o) → ⊥)
+            → InsertedIs places k word Nothing
+        inserting-returned moved =
+            let (g, occupies, went) =
+            walk-returned (entryOf places) (state .walk) o occupant-below goes (λ e. moved (ap choiceNumber e)) in
+            insertion-returned (entryOf places) (state .insertion) g occupies went
+
+        module _ (still : choiceNumber (choiceIn choices o) ≡ choiceNumber (choiceIn word o)) where
+          stays : choiceIn choices o ≡ choiceIn word o
+          stays = choiceNumber-same (choiceIn choices o) (choiceIn word o) still
+
+          occupies : Occupies (entryOf places) (choiceIn choices) k (state .displaced) o
+          occupies = walk-occupied (entryOf places) (state .walk) o occupant-below goes stays
+
+          -- With no eviction left, nothing separates the keys either.
+          pub inserting-stuck : left ≡ 0 → InsertedIs places k word Nothing
+          inserting-stuck out = insertion-stuck (entryOf places) (state .insertion) o occupies out
+
+          -- The place that it leaves is one of its two,
+          pub place-part : place ≤ entryOf places o false + entryOf places o true
+          place-part = rw (← had) (entry-part places o (choiceIn word o))
+
+          -- and an eviction toggles its choice: it goes to the other.
+          pub inserting-turn : Inserting k word (toggleBit choices o) (entryOf places o false + entryOf places o true - place)
+              (left - 1)
+          inserting-turn = record {
+            below = toggle-below (k + 1) choices o (state .below) (omega (arith, occupant-below));
+            displaced = o;
+            going =
+                rw (toggle-toggled choices o .here, stays, ← had)
+                (sym (entry-other places o (choiceIn word o)));
+            insertion =
+                insertion-turn (entryOf places) (state .insertion) (choiceIn (toggleBit choices o)) o occupies
+                (toggle-toggled choices o);
+            walk =
+                walk-turn (entryOf places) (state .walk) o occupant-below goes (choiceIn (toggleBit choices o)) stays
+                (toggle-toggled choices o);
+          }
 
   -- The lightest word of k keys, with bit k set, still is.
   pub set-lightest : (k word : ℕ) → Lightest (entryOf places) keyWeight k (choiceIn word)
@@ -107,7 +152,7 @@ module _ (places : List ℕ) where
     second-stays Nothing first second = neither-separate (entryOf places) k (first-none first) (second-none second)
 
     -- Where the first moved no key, its word stays: what is lighter would be lighter without key k.
-    pub unmoved-stays : Lightest (entryOf places) keyWeight k (choiceIn word) → InsertedIs places k word (Word word)
+    unmoved-stays : Lightest (entryOf places) keyWeight k (choiceIn word) → InsertedIs places k word (Word word)
         → WithKeyIs places k (Word word)
     unfolding total choiceWeight
     unmoved-stays light first =
@@ -118,6 +163,47 @@ module _ (places : List ℕ) where
               let before = light .lightest f (λ i j li lj same. apart i j (omega arith) (omega arith) same) in
               rw (choice-past k word below) (omega (arith, before));
         })
+
+    -- The cells of the keys before k.
+    module _ {cells : List ℕ} (light : Lightest (entryOf places) keyWeight k (choiceIn word))
+        (occupied : Occupied places word k cells) where
+      -- They are those of the word with bit k set.
+      pub occupied-set : Occupied places (setBit word k) k cells
+      occupied-set = occupied-same places word (setBit word k) k (choice-kept word k) occupied
+
+      -- Where the first place of key k is free, key k goes there.
+      pub first-free : getD cells (entryOf places k false) 0 ≡ 0 → WithKeyIs places k (Word word)
+      first-free free =
+          unmoved-stays light
+          (inserting-done (inserting-start k word (word-grown k word below) light) occupied light
+          (rw (choice-past k word below) free))
+
+      -- Where it is taken and the second is free, key k goes to its second place.
+      pub second-free : k ≤ 31 → (getD cells (entryOf places k false) 0 ≡ 0 → ⊥) → getD cells (entryOf places k true) 0 ≡ 0
+          → WithKeyIs places k (Word (setBit word k))
+      second-free few busy free =
+          let lit = set-lightest k word light in
+          let grown = set-grown k word below in
+          let own =
+          second-lightest
+          (inserting-done (inserting-start k (setBit word k) grown lit) occupied-set lit (rw (choice-set word k) free)) in
+          lightest-up (setBit word k) grown
+          (second-place-lightest (entryOf places) k few (choiceIn word) (choiceIn (setBit word k)) light (choice-kept word k)
+          (choice-set word k) (cell-taken places occupied (entryOf places k false) busy) (own .lightest))
+
+      -- The cells then.
+      module _ (all : Candidates places (k + 1)) where
+        pub first-occupied : getD cells (entryOf places k false) 0 ≡ 0
+            → Occupied places word (k + 1) (set cells (entryOf places k false) (k + 1))
+        first-occupied free =
+            occupied-more places occupied (entryOf places k false) (rw (choice-past k word below) refl)
+            (all .below k (omega arith) false) free
+
+        pub second-occupied : getD cells (entryOf places k true) 0 ≡ 0
+            → Occupied places (setBit word k) (k + 1) (set cells (entryOf places k true) (k + 1))
+        second-occupied free =
+            occupied-more places occupied-set (entryOf places k true) (rw (choice-set word k) refl)
+            (all .below k (omega arith) true) free
 
     -- Where the second has none, that of the first stays.
     pub first-stays : (a : ℕ) → InsertedIs places k word (Word a) → InsertedIs places k (setBit word k) Nothing

@@ -1,6 +1,9 @@
 pub mod Entry
+pub mod EntryLaws
 pub mod WordBits
 pub mod WordBitsLaws
 pub mod WordWeight
+pub mod Occupants
+pub mod OccupantsLaws
 pub mod Inserted
 pub mod InsertedLaws

@@ -49,6 +49,14 @@ unfolding choiceNumber
 choiceNumber-zero false n = refl
 choiceNumber-zero true n = absurd (n refl)
 
+-- Choices with one number are one.
+pub choiceNumber-same : (c d : Bool) → choiceNumber c ≡ choiceNumber d → c ≡ d
+unfolding choiceNumber
+choiceNumber-same false false e = refl
+choiceNumber-same false true e = absurd (omega arith)
+choiceNumber-same true false e = absurd (omega arith)
+choiceNumber-same true true e = refl
+
 -- The choices of a word by index are its choices as a sequence.
 pub choicesOf-at : (n w i : ℕ) → i < n → choiceIn w i ≡ byIndex (choicesOf n w) i
 unfolding choiceIn choicesOf bitAt

@@ -6,13 +6,19 @@ use crate::weight::lighter;
 use crate::word::choice_at;
 use crate::word::toggled;
 ghost use mathlib.Core.Path.{_≡_};
-ghost use Prim.Native.Nat.{_+_, _*_, _^_, _≤_, _<_};
+ghost use mathlib.Core.Bool.{true, false};
+ghost use Prim.Native.Nat.{_+_, _*_, _-_, _^_, _≤_, _<_};
 ghost use lib.ListN.{length};
+ghost use Rattle.refusal.specs.Limits.{groupMax};
 ghost use Rattle.filling.specs.Weight.{keyWeight};
-ghost use Rattle.filling.specs.Insertion.{Lightest};
+ghost use Rattle.filling.specs.Insertion.{Separate, Lightest};
 ghost use Rattle.insertion.specs.WordBits.{choiceIn};
-ghost use Rattle.insertion.specs.Entry.{entryOf};
-ghost use Rattle.insertion.specs.Inserted.{OccupantIs, LightestWord, InsertedIs, WithKeyIs};
+ghost use Rattle.insertion.specs.Entry.{entryOf, Candidates};
+ghost use Rattle.insertion.specs.Occupants.{Occupied};
+ghost use Rattle.insertion.specs.Inserted.{LightestWord, InsertedIs, WithKeyIs, CellsAre};
+
+// A cell for each place of a group of the greatest size: 0, or one more than the index of the key that has the place.
+pub const OCCUPANT_CELLS: usize = refusal::GROUP_MAX as usize;
 
 // The word with one key more, or that no sequence fills with it.
 pub enum Inserted {
@@ -20,75 +26,112 @@ pub enum Inserted {
     Nothing,
 }
 
-// Which key has the place that a displaced key goes to.
-enum Occupant {
-    Key(u32),
-    Nothing,
+// The lightest word with key k, from the lightest without it and the occupants under that; the cells become those under the word.
+pub fn with_key(
+    places: &[u32],
+    word: u32,
+    k: u32,
+    occupants: &mut [u32; OCCUPANT_CELLS],
+) -> Inserted
+    requires { ⌜ (k < groupMax) × Candidates (now places) (k + 1) × LightestWord (now places) k word ⌝ }
+    requires { ⌜ Occupied (now places) word k (now occupants) ⌝ }
+    ensures answer { λ r. ⌜ WithKeyIs (now (places .entry)) k r ⌝ }
+    ensures cells { λ r. ⌜ CellsAre (now (places .entry)) k r (now (occupants .entry)) (now (occupants .exit)) ⌝ }
+{
+    let first = places[k as usize] as usize;
+    if occupants[first] == 0 {
+        occupants[first] = k + 1;
+        return Inserted::Word(word);
+    }
+    // With its first place taken, key k could have it only if a key before it moved, and that weighs more than its second place.
+    let second = places[OCCUPANT_CELLS + k as usize] as usize;
+    if occupants[second] == 0 {
+        occupants[second] = k + 1;
+        return Inserted::Word(bits::with_bit(word, k));
+    }
+    let Inserted::Word(next) = evicting(places, word, k, occupants) else {
+        return Inserted::Nothing;
+    };
+    occupy(places, next, k + 1, occupants);
+    Inserted::Word(next)
 }
 
-// The lightest word with key k, from the lightest without it: of the results of inserting key k with choice 0 and with choice 1,
-// the lighter.
-pub fn with_key(places: &[usize], word: u32, k: u32) -> Inserted
-    requires { ⌜ (2 * k + 1 < length (now places)) × (k < 32) × LightestWord (now places) k word ⌝ }
+// The lighter of the results of inserting key k with choice 0 and with choice 1.
+fn evicting(places: &[u32], word: u32, k: u32, occupants: &[u32]) -> Inserted
+    requires { ⌜ (k < groupMax) × Candidates (now places) (k + 1) × LightestWord (now places) k word ⌝ }
+    requires { ⌜ Occupied (now places) word k (now occupants) ⌝ }
     ensures answer { λ r. ⌜ WithKeyIs (now (places .entry)) k r ⌝ }
 {
-    let Inserted::Word(a) = insert(places, word, k) else {
-        return insert(places, bits::with_bit(word, k), k);
+    let Inserted::Word(a) = insert(places, word, k, occupants) else {
+        return insert(places, bits::with_bit(word, k), k, occupants);
     };
-    // Where no key had to move, nothing is lighter.
-    if a == word {
-        return Inserted::Word(a);
-    }
-    let Inserted::Word(b) = insert(places, bits::with_bit(word, k), k) else {
+    let Inserted::Word(b) = insert(places, bits::with_bit(word, k), k, occupants) else {
         return Inserted::Word(a);
     };
     Inserted::Word(lighter(a, b, k + 1))
 }
 
-// Inserts key k with the choice that the word has for it, by at most k evictions.
-fn insert(places: &[usize], word: u32, k: u32) -> Inserted
-    requires { ⌜ (2 * k + 1 < length (now places)) × (k < 32) × (word < 2 ^ (k + 1)) ⌝ }
-    requires { ⌜ Lightest (entryOf (now places)) keyWeight k (choiceIn word) ⌝ }
+// Inserts key k with the choice that the word has for it, by at most k evictions. The cells are those of the word, and stay.
+fn insert(places: &[u32], word: u32, k: u32, occupants: &[u32]) -> Inserted
+    requires { ⌜ (k < groupMax) × Candidates (now places) (k + 1) × (word < 2 ^ (k + 1)) ⌝ }
+    requires { ⌜ Lightest (entryOf (now places)) keyWeight k (choiceIn word) × Occupied (now places) word k (now occupants) ⌝ }
     ensures answer { λ r. ⌜ InsertedIs (now (places .entry)) k word r ⌝ }
 {
     let mut choices = word;
-    let mut displaced = k;
+    // The place that the displaced key goes to, key k at first.
+    let mut place = place_taken(places, word, k);
     let mut evictions = k;
     loop {
-        let Occupant::Key(occupant) = occupant_of(places, choices, k, displaced) else {
+        let occupant = occupants[place as usize];
+        if occupant == 0 {
             return Inserted::Word(choices);
-        };
+        }
+        let o = occupant - 1;
+        // Where o has moved already, the place is the one that it left: nothing separates the keys.
+        if choice_at(choices, o) != choice_at(word, o) {
+            return Inserted::Nothing;
+        }
         if evictions == 0 {
             return Inserted::Nothing;
         }
-        choices = toggled(choices, occupant);
-        displaced = occupant;
+        choices = toggled(choices, o);
+        place = other_place(places, o, place);
         evictions -= 1;
     }
 }
 
-// The key up to k, other than the displaced one, that takes the displaced one's place, if there is one.
-fn occupant_of(places: &[usize], word: u32, k: u32, displaced: u32) -> Occupant
-    requires { ⌜ (2 * k + 1 < length (now places)) × (k < 32) × (displaced ≤ k) ⌝ }
-    ensures answer { λ r. ⌜ OccupantIs (now (places .entry)) word k displaced r ⌝ }
+// The candidate place of key i that is not this one of its two.
+fn other_place(places: &[u32], i: u32, place: u32) -> u32
+    requires { ⌜ (i < groupMax) × Candidates (now places) (i + 1) ⌝ }
+    requires { ⌜ place ≤ entryOf (now places) i false + entryOf (now places) i true ⌝ }
+    ensures answer { λ r. ⌜ r ≡ entryOf (now (places .entry)) i false + entryOf (now (places .entry)) i true - place ⌝ }
 {
-    let place = place_taken(places, word, displaced);
+    places[i as usize] + places[OCCUPANT_CELLS + i as usize] - place
+}
+
+// The occupants of the first `count` keys under a word.
+fn occupy(places: &[u32], word: u32, count: u32, occupants: &mut [u32; OCCUPANT_CELLS])
+    requires { ⌜ (count ≤ groupMax) × Candidates (now places) count × (length (now occupants) ≡ groupMax) ⌝ }
+    requires { ⌜ Separate (entryOf (now places)) count (choiceIn word) ⌝ }
+    ensures cells { λ _. ⌜ Occupied (now (places .entry)) word count (now (occupants .exit)) ⌝ }
+{
+    let mut v = 0;
+    while v < OCCUPANT_CELLS {
+        occupants[v] = 0;
+        v += 1;
+    }
     let mut i: u32 = 0;
-    while i <= k {
-        if i != displaced {
-            if place_taken(places, word, i) == place {
-                return Occupant::Key(i);
-            }
-        }
+    while i < count {
+        let place = place_taken(places, word, i) as usize;
+        occupants[place] = i + 1;
         i += 1;
     }
-    Occupant::Nothing
 }
 
 // The place that key i takes under the word's choice.
-fn place_taken(places: &[usize], word: u32, i: u32) -> usize
-    requires { ⌜ (2 * i + 1 < length (now places)) × (i < 32) ⌝ }
+fn place_taken(places: &[u32], word: u32, i: u32) -> u32
+    requires { ⌜ (i < groupMax) × (length (now places) ≡ 2 * groupMax) ⌝ }
     ensures answer { λ r. ⌜ r ≡ entryOf (now (places .entry)) i (choiceIn word i) ⌝ }
 {
-    places[(2 * i + choice_at(word, i)) as usize]
+    places[(refusal::GROUP_MAX * choice_at(word, i) + i) as usize]
 }

@@ -36,11 +36,12 @@ pub fn place_group(tags: &[u32], limit: u32) -> PlacingAnswer
     if let First::At(i) = ascending::first_not_above(tags) {
         return refuse(Reason::NotAscending, i);
     }
-    let Found::At(seed) = seeds::least_seed(tags, limit) else {
+    let mut places = [0u32; candidates::PLACE_CELLS];
+    let Found::At(seed) = seeds::least_seed(tags, limit, &mut places) else {
         return refuse(Reason::NoSeed, 0);
     };
     // Under the seed found some sequence fills, so the second case does not come.
-    let Choices::Word(word) = sequence::choices_under(tags, seed) else {
+    let Choices::Word(word) = sequence::least_choices(&places, tags.len() as u32) else {
         return refuse(Reason::NoSeed, 0);
     };
     PlacingAnswer::Placed(seed, word)

@@ -1,5 +1,4 @@
 pub mod Answer
 pub mod Occupancy
 pub mod OccupancyLaws
-pub mod Laid
-pub mod LaidLaws
+pub mod Tried

@@ -2,20 +2,24 @@
 use Prim.Native.Nat.{ℕ, _+_, _≤_, _<_}
 use mathlib.Core.Path.{_≡_, refl, _∙_, ap}
 use mathlib.Core.Bool.{Bool, true, false, cond, _||_}
-use mathlib.Core.List.{List, [], _∷_, _++_}
+use mathlib.Core.List.{List, [], _∷_, _++_, map, map-append}
+use native.Mathlib.Numerals.{add-one}
 use native.Mathlib.Omega.{arith}
+use lib.Bits.{bitOr, or-comm, or-zero-l}
 use lib.Count.{ones}
 use lib.Dec.{eqb}
-use lib.ListN.{length}
+use lib.ListN.{length, getD, take}
+use lib.Seq.{take-suc}
 use borrow.Author.Tests.{eqb-true, eqb-false}
 use Rattle.bits.specs.Bit.{bitAt, setBit}
-use Rattle.bits.specs.BitLaws.{bit-zero, bit-same, bit-other, setBit-comm, setBit-ones, ones-zero}
+use Rattle.bits.specs.BitLaws.{bit-zero, bit-same, bit-other, setBit-comm, setBit-ones, ones-zero, or-setBit}
 use Rattle.filling.specs.Places.{occurs}
-use Rattle.filling.specs.Filling.{Key, Fills}
+use Rattle.filling.specs.Filling.{Key, placeBy, Fills}
 use Rattle.filling.specs.FillingLaws.{EachCandidate}
 use Rattle.filling.specs.Touched.{candidatePlaces, once, touched}
 use Rattle.filling.specs.TouchedLaws.{fills-touched, touched-below, untouched-none}
 use Rattle.filling.specs.Word.{choiceNumber}
+use Rattle.candidates.specs.Array.{placesBy}
 use Rattle.seeds.specs.Occupancy.{occupancy, occupancyOf}
 
 -- Bit x is set exactly where place x is in the list.
@@ -64,10 +68,34 @@ ones-none n keys size below other = untouched-none n keys size below (λ e. othe
 pub ones-most : (n : ℕ) (keys : List Key) → EachCandidate (λ x. x < n) keys → ones (occupancyOf keys) ≤ n
 ones-most n keys below = omega (arith, ones-touched keys, touched-below n keys below)
 
--- The bits of two further places are set, in any order.
-pub occupancy-more : (places : List ℕ) (p q : ℕ) → occupancy (places ++ (p ∷ q ∷ [])) ≡ setBit (setBit (occupancy places) p) q
+-- The bit of one place more is set.
+pub occupancy-more : (places : List ℕ) (p : ℕ) → occupancy (places ++ (p ∷ [])) ≡ setBit (occupancy places) p
 unfolding occupancy
-occupancy-more [] p q = setBit-comm 0 q p
-occupancy-more (x ∷ places) p q =
-    let w = occupancy places in
-    rw (occupancy-more places p q) (setBit-comm (setBit w p) q x ∙ ap (λ v. setBit v q) (setBit-comm w p x))
+occupancy-more [] p = refl
+occupancy-more (x ∷ places) p = rw (occupancy-more places p) (setBit-comm (occupancy places) p x)
+
+-- Under one choice: no key sets no bit,
+pub half-none : (choice : Bool) (keys : List Key) → occupancy (placesBy choice (take 0 keys)) ≡ 0
+unfolding placesBy occupancy
+half-none choice keys = refl
+
+-- and one key more sets the bit of its place.
+pub half-more : (choice : Bool) (keys : List Key) (i : ℕ) → i < length keys
+    → occupancy (placesBy choice (take (i + 1) keys))
+    ≡ setBit (occupancy (placesBy choice (take i keys))) (placeBy choice (getD keys i (0, 0)))
+unfolding placesBy
+half-more choice keys i lt =
+    rw (add-one i, take-suc keys i (0, 0) lt, map-append (placeBy choice) (take i keys) (getD keys i (0, 0) ∷ []))
+    (occupancy-more (map (placeBy choice) (take i keys)) (placeBy choice (getD keys i (0, 0))))
+
+-- The places under choice 0 and those under choice 1 together are all.
+pub halves-occupied : (keys : List Key) → bitOr (occupancy (placesBy false keys)) (occupancy (placesBy true keys)) ≡ occupancyOf keys
+unfolding placesBy occupancyOf candidatePlaces occupancy
+halves-occupied [] = or-zero-l 0
+halves-occupied (key ∷ keys) =
+    let v = occupancy (map (placeBy false) keys) in
+    let w = occupancy (map (placeBy true) keys) in
+    let p = placeBy false key in
+    let q = placeBy true key in
+    or-setBit v (setBit w q) p
+    ∙ ap (λ x. setBit x p) (or-comm v (setBit w q) ∙ or-setBit w v q ∙ rw (or-comm w v, halves-occupied keys))

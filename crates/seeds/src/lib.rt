@@ -7,9 +7,10 @@ ghost use Prim.Native.Nat.{_*_, _≤_};
 ghost use lib.ListN.{length};
 ghost use Rattle.refusal.specs.Limits.{groupMax, limitMax, seedMax};
 ghost use Rattle.group.specs.Group.{groupUnder, leastSeed};
+ghost use Rattle.candidates.specs.Array.{laidInto};
 ghost use Rattle.seeds.specs.Answer.{foundMeaning};
 ghost use Rattle.seeds.specs.Occupancy.{occupancyOf};
-ghost use Rattle.seeds.specs.Laid.{laidInto};
+ghost use Rattle.seeds.specs.Tried.{tried, laidAfter};
 
 // The least seed, if there is one.
 pub enum Found {
@@ -17,42 +18,69 @@ pub enum Found {
     Nothing,
 }
 
-// Cells for the tags of a group, and for both candidate places of each: 24 and 48.
-pub const TAG_CELLS: usize = refusal::GROUP_MAX as usize;
+// Each number up to 24, as one of 32 bits.
+const SIZES: [u32; 25] = [
+    0,
+    1,
+    2,
+    3,
+    4,
+    5,
+    6,
+    7,
+    8,
+    9,
+    10,
+    11,
+    12,
+    13,
+    14,
+    15,
+    16,
+    17,
+    18,
+    19,
+    20,
+    21,
+    22,
+    23,
+    24,
+];
 
-pub const PLACE_CELLS: usize = 2 * TAG_CELLS;
+// The number of tags of a group. Read from a table, it is known to the compiler as a number of 32 bits, which it needs to hash several
+// tags at once.
+fn size_of(tags: &[u32]) -> u32
+    requires { ⌜ length (now tags) ≤ groupMax ⌝ }
+    ensures answer { λ r. ⌜ r ≡ length (now (tags .entry)) ⌝ }
+{
+    SIZES[tags.len()]
+}
 
-// Lays out the candidate places of the tags under a seed: entry 2 * i + c of `places` is the place of tag i under choice c. Answers
-// the occupancy word.
-pub fn candidates(tags: &[u32], seed: u32, places: &mut [usize; PLACE_CELLS]) -> u32
-    requires { ⌜ (length (now tags) ≤ groupMax) × (seed ≤ seedMax) × (length (now places) ≡ 2 * groupMax) ⌝ }
+// Lays out the candidate places of n tags under a seed, and answers the occupancy word.
+fn lay_out(tags: &[u32], n: u32, seed: u32, places: &mut [u32; candidates::PLACE_CELLS]) -> u32
+    requires { ⌜ (length (now tags) ≤ groupMax) × (n ≡ length (now tags)) × (seed ≤ seedMax) × (length (now places) ≡ 2 * groupMax) ⌝ }
     ensures answer { λ r. ⌜ r ≡ occupancyOf (groupUnder (now (tags .entry)) seed) ⌝ }
     ensures cells { λ r. ⌜ now (places .exit) ≡ laidInto (groupUnder (now (tags .entry)) seed) (now (places .entry)) ⌝ }
 {
-    let n = tags.len() as u32;
-    let a = hash::multiplier(seed, 0);
-    let b = hash::multiplier(seed, 1);
-    let mut occupied: u32 = 0;
+    candidates::candidate_places(tags, n, seed, places);
+    let mut first: u32 = 0;
+    let mut second: u32 = 0;
     let mut i = 0;
     while i < tags.len() {
-        let tag = tags[i];
-        let p = hash::hashed(a, n, tag);
-        let q = hash::hashed(b, n, tag);
-        places[2 * i] = p as usize;
-        places[2 * i + 1] = q as usize;
-        occupied = bits::with_bit(bits::with_bit(occupied, p), q);
+        first = bits::with_bit(first, places[i]);
+        second = bits::with_bit(second, places[candidates::TAG_CELLS + i]);
         i += 1;
     }
-    occupied
+    first | second
 }
 
-// The least seed below `limit` under which some choice sequence fills the group.
-pub fn least_seed(tags: &[u32], limit: u32) -> Found
-    requires { ⌜ (length (now tags) ≤ groupMax) × (limit ≤ limitMax) ⌝ }
+// The least seed below `limit` under which some choice sequence fills the group; the candidate places under it stay in the cells.
+pub fn least_seed(tags: &[u32], limit: u32, places: &mut [u32; candidates::PLACE_CELLS]) -> Found
+    requires { ⌜ (length (now tags) ≤ groupMax) × (limit ≤ limitMax) × (length (now places) ≡ 2 * groupMax) ⌝ }
     ensures answer { λ r. ⌜ foundMeaning r ≡ leastSeed (now (tags .entry)) limit ⌝ }
+    ensures cells { λ r. ⌜ now (places .exit) ≡ laidAfter (now (tags .entry)) (tried (foundMeaning r) limit) (now (places .entry)) ⌝ }
 {
-    let n = tags.len();
-    let mut places = [0usize; PLACE_CELLS];
+    let n = size_of(tags);
     let mut next = 0;
     let seed = 'seeds: loop {
         if next >= limit {
@@ -60,28 +88,36 @@ pub fn least_seed(tags: &[u32], limit: u32) -> Found
         }
         let s = next;
         next += 1;
-        let occupied = candidates(tags, s, &mut places);
-        if u32::count_ones(occupied) as usize != n {
+        let occupied = lay_out(tags, n, s, places);
+        if u32::count_ones(occupied) != n {
             continue 'seeds;
         }
-        // For each place 0, or one more than the index of the tag that has it; for each tag its choice. Zeroed for each seed that is not
-        // dropped: its insertion begins anew.
-        let mut occupants = [0usize; TAG_CELLS];
-        let mut choices = [0usize; TAG_CELLS];
-        let mut seated = 0;
-        let mut moving = 0;
-        let mut left = 1;
-        // One turn: the moving tag, inserted or evicted last, takes the place that its choice leads to.
+        // For each place 0 where it is free, otherwise one more than the other place of the tag that has it. Zeroed for each seed that is
+        // not dropped: its insertion begins anew.
+        let mut others = [0u32; candidates::TAG_CELLS];
+        let mut seated: u32 = 0;
+        let mut place = places[0];
+        let mut other = places[candidates::TAG_CELLS];
+        let mut left: u32 = 1;
+        // One turn: the moving tag, inserted or evicted last, takes its place.
         'evict: loop {
             if seated == n {
                 break 'seeds s;
             }
-            let place = places[2 * moving + choices[moving]];
-            let occupant = occupants[place];
-            occupants[place] = moving + 1;
-            if occupant == 0 {
+            let taken = others[place as usize];
+            others[place as usize] = other + 1;
+            if taken == 0 {
                 seated += 1;
-                moving = seated;
+                if seated < n {
+                    // The next tag goes to its second place where its first is taken.
+                    place = places[seated as usize];
+                    other = places[candidates::TAG_CELLS + seated as usize];
+                    if others[place as usize] != 0 {
+                        let first = place;
+                        place = other;
+                        other = first;
+                    }
+                }
                 left = 2 * seated + 1;
             } else {
                 // 2k + 1 evictions with k tags seated are enough wherever something fills.
@@ -89,8 +125,8 @@ pub fn least_seed(tags: &[u32], limit: u32) -> Found
                     break 'evict;
                 }
                 left -= 1;
-                moving = occupant - 1;
-                choices[moving] = 1 - choices[moving];
+                other = place;
+                place = taken - 1;
             }
         }
     };

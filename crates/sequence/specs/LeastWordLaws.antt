@@ -1,5 +1,5 @@
 -- What weighted insertion leads to: the lightest word of the keys of an array is that of their least sequence. Assumes nothing.
-use Prim.Native.Nat.{ℕ, _*_, _≤_, _<_}
+use Prim.Native.Nat.{ℕ, _≤_, _<_}
 use mathlib.Core.Path.{_≡_, sym, _∙_}
 use mathlib.Core.Bool.{Bool}
 use mathlib.Core.List.{List}
@@ -20,20 +20,20 @@ use Rattle.insertion.specs.Inserted.{LightestWord}
 use Rattle.sequence.specs.Keys.{keysOf}
 use Rattle.sequence.specs.KeysLaws.{keysOf-length, keysOf-place}
 
-module _ (places : List ℕ) (count : ℕ) (long : 2 * count ≤ length places) where
+module _ (places : List ℕ) (count : ℕ) where
   -- The lightest word of all keys is that of the least sequence.
   pub lightest-word : (word : ℕ) → count ≤ 32 → LightestWord places count word
       → some word ≡ Option·map wordOf (least (keysOf count places))
   lightest-word word few light = rw (found, choices-word count word (light .below))
     where
       sized : length (keysOf count places) ≡ count
-      sized = keysOf-length count places long
+      sized = keysOf-length count places
 
       listed : Lightest (placeIn (keysOf count places)) keyWeight count (byIndex (choicesOf count word))
       listed =
           lightest-same (entryOf places) (placeIn (keysOf count places)) keyWeight count
           (choiceIn word) (byIndex (choicesOf count word))
-          (λ i lt b. sym (keysOf-place count places long i lt b)) (λ i lt. choicesOf-at count word i lt) (light .lightest)
+          (λ i lt b. sym (keysOf-place count places i lt b)) (λ i lt. choicesOf-at count word i lt) (light .lightest)
 
       found : least (keysOf count places) ≡ some (choicesOf count word)
       found =
@@ -46,10 +46,10 @@ module _ (places : List ℕ) (count : ℕ) (long : 2 * count ≤ length places) 
   nothing-word nothing = rw (none-least (keysOf count places) listed)
     where
       sized : length (keysOf count places) ≡ count
-      sized = keysOf-length count places long
+      sized = keysOf-length count places
 
       at : (f : ℕ → Bool) (i : ℕ) → i < count → placeIn (keysOf count places) i (f i) ≡ entryOf places i (f i)
-      at f i lt = keysOf-place count places long i lt (f i)
+      at f i lt = keysOf-place count places i lt (f i)
 
       listed : (f : ℕ → Bool) → Separate (placeIn (keysOf count places)) (length (keysOf count places)) f → ⊥
       listed f all =

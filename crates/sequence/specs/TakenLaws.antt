@@ -1,4 +1,5 @@
--- What an answer of `choices_under` says of the sequence taken: callers use these laws with its promise. Assumes nothing.
+-- What an answer of `least_choices` for a group's candidate places says of the sequence taken: callers use these laws with its
+-- promise. Assumes nothing.
 use Prim.Native.Nat.{ℕ}
 use mathlib.Core.Path.{_≡_, refl, _∙_}
 use mathlib.Core.Bool.{Bool}

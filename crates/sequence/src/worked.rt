@@ -1,14 +1,17 @@
-// What the promise of `choices_under` suffices for: the least sequence of a group that two sequences fill, from the promise alone.
+// What the promise of `least_choices` suffices for: the least sequence of keys that two sequences fill, from the promise alone.
 use crate::Choices;
-use crate::choices_under;
+use crate::least_choices;
 ghost use mathlib.Core.Path.{_≡_};
 
-// Of {599, 1193} under seed 0 the sequences 0, 1 and 1, 0 fill. The first is the least, though its word is 2 and the other's is 1.
+// Of two keys with the places 0 and 1 each, the sequences 0, 1 and 1, 0 fill. The first is the least, though its word is 2 and
+// the other's is 1.
 pub fn word_of_two_fillings() -> u32
     ensures answer { λ r. ⌜ r ≡ 2 ⌝ }
 {
-    let tags = [599u32, 1193];
-    match choices_under(&tags, 0) {
+    let mut places = [0u32; 2 * insertion::OCCUPANT_CELLS];
+    places[insertion::OCCUPANT_CELLS] = 1;
+    places[insertion::OCCUPANT_CELLS + 1] = 1;
+    match least_choices(&places, 2) {
         Choices::Word(word) => word,
         Choices::Nothing => 0,
     }

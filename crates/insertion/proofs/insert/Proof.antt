@@ -1,49 +1,103 @@
 -- `insertion::insert` meets its contract: `Inserting` is the state of the loop, and each eviction uses up one that is left.
 -- Assumes nothing.
+use Prim.Native.Nat.{_<_}
+use mathlib.Core.Path.{sym, _∙_}
 use native.Mathlib.Omega.{arith}
 use borrow.Author.Needs.{needs}
-use Rattle.insertion.specs.InsertedLaws.{Inserting, inserting-start, inserting-turn, inserting-done, inserting-stuck}
+use Rattle.refusal.specs.Limits.{groupMax}
+use Rattle.insertion.specs.WordBits.{choiceIn}
+use Rattle.insertion.specs.EntryLaws.{candidates-fewer}
+use Rattle.insertion.specs.OccupantsLaws.{occupant-within}
+use Rattle.insertion.specs.InsertedLaws.{Inserting, inserting-start, inserting-within, inserting-done, inserting-returned, inserting-stuck, place-part, inserting-turn}
 use Rattle.insertion.proofs.insert.Statement.{statement}
 use Rattle.insertion.proofs.insert.Tie as tie
 
 abbrev Inv-loop : tie.InvT-loop
-Inv-loop places word k choices₀ displaced₀ evictions₀ choices displaced evictions =
-    Inserting places k word choices displaced evictions
+Inv-loop places word k occupants choices₀ place₀ evictions₀ choices place evictions =
+    (place < groupMax) × Inserting places k word choices place evictions
 
 abbrev μ-loop : tie.MeasureT-loop
-μ-loop places word k choices₀ displaced₀ evictions₀ choices displaced evictions = evictions
+μ-loop places word k occupants choices₀ place₀ evictions₀ choices place evictions = evictions
+
+place-taken-requires : tie.Need-place-taken-requires Inv-loop μ-loop
+place-taken-requires c κs =
+    let pre = c .before .before .pre .0 in
+    (pre .0, pre .1 .size)
 
 loop-holds : tie.Need-loop-holds Inv-loop μ-loop
-loop-holds c = let pre = c .before .pre in inserting-start _ _ _ (pre .0 .2) (pre .1)
+loop-holds c =
+    let start = c .before .before .before in
+    let a = start .args in
+    let below = start .pre .0 .1 .below (a .k) (omega arith) (choiceIn (a .word) (a .k)) in
+    let begun = inserting-start (a .places .now) (a .k) (a .word) (start .pre .0 .2) (start .pre .1 .0) in
+    rw (c .place-taken .ensures) (below, begun)
 
-occupant-of-requires : tie.Need-occupant-of-requires Inv-loop μ-loop
-occupant-of-requires c κs = omega (arith, c .loop .inv .insertion .upto)
+cast-occupant : tie.Need-cast-occupant Inv-loop μ-loop
+cast-occupant c = search needs
 
-enum-known-occupant : tie.Need-enum-known-occupant Inv-loop μ-loop
-enum-known-occupant c = search needs
+mul-occupant : tie.Need-mul-occupant Inv-loop μ-loop
+mul-occupant c = search needs
 
-enum-told : tie.Need-enum-told Inv-loop μ-loop
-enum-told c = search needs
+shared-slice-read-occupant : tie.Need-shared-slice-read-occupant Inv-loop μ-loop
+shared-slice-read-occupant c = search needs
 
 returns : tie.Need-returns Inv-loop μ-loop
 returns c =
-    let found = c .before .before in
-    let at = found .before in
-    let free = rw (c .enum-told .given .1) at (found .occupant-of .ensures) in
-    inserting-done _ (at .loop .inv) (at .before .before .pre .1) free
+    let at = c .before .before in
+    let pre = at .before .before .before .before .pre .1 in
+    inserting-done _ (at .loop .inv .1) (pre .1) (pre .0) (c .if1 .taken)
+
+sub-o : tie.Need-sub-o Inv-loop μ-loop
+sub-o c = search needs
+
+choice-at-requires : tie.Need-choice-at-requires Inv-loop μ-loop
+choice-at-requires c κs =
+    let at = c .before .before in
+    let pre = at .before .before .before .before .pre .1 in
+    omega (arith, occupant-within _ (pre .1) (at .loop .place) (c .if1 .left))
+
+choice-at-requires-2 : tie.Need-choice-at-requires-2 Inv-loop μ-loop
+choice-at-requires-2 c κs =
+    let at = c .before .before .before in
+    let pre = at .before .before .before .before .pre .1 in
+    omega (arith, occupant-within _ (pre .1) (at .loop .place) (c .before .if1 .left))
 
 returns-2 : tie.Need-returns-2 Inv-loop μ-loop
 returns-2 c =
-    let known = c .before .before in
-    let found = known .before .before in
-    let occupied = rw (known .occupant .given .1) at (found .occupant-of .ensures) in
-    inserting-stuck _ (found .before .loop .inv) _ occupied (omega (arith, c .if1 .taken))
+    let both = c .before in
+    let busy = both .before .before in
+    let at = busy .before .before in
+    let pre = at .before .before .before .before .pre .1 in
+    inserting-returned _ (at .loop .inv .1) (pre .1) _ (omega (arith, busy .if1 .left))
+    (λ e. c .if2 .taken (both .before .choice-at .ensures ∙ e ∙ sym (both .choice-at2 .ensures)))
+
+returns-3 : tie.Need-returns-3 Inv-loop μ-loop
+returns-3 c =
+    let both = c .before .before in
+    let busy = both .before .before in
+    let at = busy .before .before in
+    let pre = at .before .before .before .before .pre .1 in
+    let still = sym (both .before .choice-at .ensures) ∙ c .before .if2 .left ∙ both .choice-at2 .ensures in
+    inserting-stuck _ (at .loop .inv .1) (pre .1) _ (omega (arith, busy .if1 .left)) still (omega (arith, c .if3 .taken))
 
 toggled-requires : tie.Need-toggled-requires Inv-loop μ-loop
 toggled-requires c κs =
-    let known = c .before .before in
-    let occupied = rw (known .occupant .given .1) at (known .before .before .occupant-of .ensures) in
-    omega (arith, occupied .within)
+    let busy = c .before .before .before .before in
+    let at = busy .before .before in
+    let pre = at .before .before .before .before .pre .1 in
+    omega (arith, occupant-within _ (pre .1) (at .loop .place) (busy .if1 .left))
+
+other-place-requires : tie.Need-other-place-requires Inv-loop μ-loop
+other-place-requires c κs =
+    let both = c .before .before .before in
+    let busy = both .before .before in
+    let at = busy .before .before in
+    let pre = at .before .before .before .before .pre in
+    let state = at .loop .inv .1 in
+    let still = sym (both .before .choice-at .ensures) ∙ c .before .before .if2 .left ∙ both .choice-at2 .ensures in
+    let below = occupant-within _ (pre .1 .1) (at .loop .place) (busy .if1 .left) in
+    let part = place-part _ state (pre .1 .1) _ (omega (arith, busy .if1 .left)) still in
+    ((omega arith, candidates-fewer _ (omega arith) (pre .0 .1)), part)
 
 sub-evictions : tie.Need-sub-evictions Inv-loop μ-loop
 sub-evictions c = search needs
@@ -53,10 +107,14 @@ loop-less c = search needs
 
 loop-again : tie.Need-loop-again Inv-loop μ-loop
 loop-again c =
-    let known = c .before .before .before in
-    let found = known .before .before in
-    let occupied = rw (known .occupant .given .1) at (found .occupant-of .ensures) in
-    rw (c .toggled .ensures) (inserting-turn _ (found .before .loop .inv) _ occupied)
+    let both = c .before .before .before .before in
+    let busy = both .before .before in
+    let at = busy .before .before in
+    let pre = at .before .before .before .before .pre in
+    let state = at .loop .inv .1 in
+    let still = sym (both .before .choice-at .ensures) ∙ c .before .before .before .if2 .left ∙ both .choice-at2 .ensures in
+    let next = inserting-turn _ state (pre .1 .1) _ (omega (arith, busy .if1 .left)) still in
+    rw (c .other-place .ensures, c .before .toggled .ensures) (inserting-within _ next (pre .0 .1), next)
 
 pub insert-spec : {M : Type 1} → statement M
 insert-spec =
@@ -64,13 +122,19 @@ insert-spec =
     (tie.spec
     Inv-loop
     μ-loop
+    place-taken-requires
     loop-holds
-    occupant-of-requires
-    enum-known-occupant
-    enum-told
+    cast-occupant
+    mul-occupant
+    shared-slice-read-occupant
     returns
+    sub-o
+    choice-at-requires
+    choice-at-requires-2
     returns-2
+    returns-3
     toggled-requires
+    other-place-requires
     sub-evictions
     loop-less
     loop-again)

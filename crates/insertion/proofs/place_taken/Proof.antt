@@ -1,4 +1,5 @@
--- `insertion::place_taken` meets its contract: the entry read is 2 * i plus the choice, which is at most 1. Assumes nothing.
+-- `insertion::place_taken` meets its contract: the entry read is 24 times the choice plus i, and a choice is at most 1.
+-- Assumes nothing.
 use borrow.Author.Needs.{needs}
 use native.Mathlib.Omega.{arith}
 use Rattle.insertion.specs.Entry.{entryOf}
@@ -7,11 +8,13 @@ use Rattle.insertion.specs.WordBitsLaws.{choiceNumber-upto}
 use Rattle.insertion.proofs.place_taken.Statement.{statement}
 use Rattle.insertion.proofs.place_taken.Tie as tie
 
-mul-result : tie.Need-mul-result
-mul-result c = search needs
-
 choice-at-requires : tie.Need-choice-at-requires
 choice-at-requires c κs = search needs
+
+mul-result : tie.Need-mul-result
+mul-result c =
+    let a = c .before .before .args in
+    record { fits = omega (arith, choiceNumber-upto (choiceIn (a .word) (a .i))) }
 
 add-result : tie.Need-add-result
 add-result c =
@@ -37,8 +40,8 @@ pub place-taken-spec : {M : Type 1} → statement M
 place-taken-spec =
     tie.close
     (tie.spec
-    mul-result
     choice-at-requires
+    mul-result
     add-result
     cast-result
     mul-result-2

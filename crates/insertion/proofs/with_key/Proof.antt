@@ -1,109 +1,170 @@
--- `insertion::with_key` meets its contract: the first insertion's word stays where it moved no key; otherwise the two insertions give
--- the lightest words with either choice of key k, and the lighter of them stays. Assumes nothing.
-use mathlib.Core.Path.{_≡_, sym, _∙_}
-use Rattle.insertion.specs.WordBitsLaws.{word-grown, set-grown}
-use Rattle.insertion.specs.InsertedLaws.{set-lightest, second-stays, unmoved-stays, first-stays, lighter-stays}
+-- `insertion::with_key` meets its contract: at a free first place no key moves, at a free second one key k weighs less than a move
+-- of a key before it, and otherwise both insertions are made. Assumes nothing.
+use mathlib.Core.Path.{refl}
+use native.Mathlib.Omega.{arith}
 use borrow.Author.Needs.{needs}
+use Rattle.insertion.specs.EntryLaws.{entry-first, entry-second, first-below, second-below}
+use Rattle.insertion.specs.InsertedLaws.{first-free, second-free, first-occupied, second-occupied}
 use Rattle.insertion.proofs.with_key.Statement.{statement}
 use Rattle.insertion.proofs.with_key.Tie as tie
 
-insert-requires : tie.Need-insert-requires
-insert-requires c κs =
-    let pre = c .before .pre in
-    ((pre .0, pre .1, word-grown _ _ (pre .2 .below)), pre .2 .lightest)
+mul-first : tie.Need-mul-first
+mul-first c = search needs
 
-enum-known-a : tie.Need-enum-known-a
-enum-known-a c = search needs
+shared-slice-read-first : tie.Need-shared-slice-read-first
+shared-slice-read-first c = search needs
 
-enum-told : tie.Need-enum-told
-enum-told c = search needs
+cast-first : tie.Need-cast-first
+cast-first c =
+    let start = c .before .before in
+    record { fits = omega (arith, first-below (start .args .k) (start .pre .0 .1)) }
+
+mul-if1 : tie.Need-mul-if1
+mul-if1 c =
+    let start = c .before .before in
+    record { fits = omega (arith, first-below (start .args .k) (start .pre .0 .1)) }
+
+element-copy-out-if1 : tie.Need-element-copy-out-if1
+element-copy-out-if1 c =
+    let start = c .before .before in
+    omega (arith, first-below (start .args .k) (start .pre .0 .1))
+
+add-occupants : tie.Need-add-occupants
+add-occupants c = search needs
+
+mul-occupants : tie.Need-mul-occupants
+mul-occupants c =
+    let start = c .before .before .before .before in
+    record { fits = omega (arith, first-below (start .args .k) (start .pre .0 .1)) }
+
+element-write-occupants : tie.Need-element-write-occupants
+element-write-occupants c =
+    let start = c .before .before .before .before in
+    omega (arith, first-below (start .args .k) (start .pre .0 .1))
+
+returns : tie.Need-returns
+returns c =
+    let start = c .before .before .before .before in
+    let pre = start .pre in
+    let a = start .args in
+    let free = rw (entry-first (a .places .now) (a .k)) at (c .if1 .taken) in
+    let light = pre .0 .2 in
+    rw (entry-first (a .places .now) (a .k)) (
+      first-free _ _ _ (light .below) (light .lightest) (pre .1) free,
+      first-occupied _ _ _ (light .below) (light .lightest) (pre .1) (pre .0 .1) free,
+    )
+
+add-second : tie.Need-add-second
+add-second c = search needs
+
+mul-second : tie.Need-mul-second
+mul-second c = search needs
+
+shared-slice-read-second : tie.Need-shared-slice-read-second
+shared-slice-read-second c = search needs
+
+cast-second : tie.Need-cast-second
+cast-second c =
+    let start = c .before .before .before .before .before in
+    record { fits = omega (arith, second-below (start .args .k) (start .pre .0 .1)) }
+
+mul-if2 : tie.Need-mul-if2
+mul-if2 c =
+    let start = c .before .before .before .before .before in
+    record { fits = omega (arith, second-below (start .args .k) (start .pre .0 .1)) }
+
+element-copy-out-if2 : tie.Need-element-copy-out-if2
+element-copy-out-if2 c =
+    let start = c .before .before .before .before .before in
+    omega (arith, second-below (start .args .k) (start .pre .0 .1))
+
+add-occupants-2 : tie.Need-add-occupants-2
+add-occupants-2 c = search needs
+
+mul-occupants-2 : tie.Need-mul-occupants-2
+mul-occupants-2 c =
+    let start = c .before .before .before .before .before .before .before in
+    record { fits = omega (arith, second-below (start .args .k) (start .pre .0 .1)) }
+
+element-write-occupants-2 : tie.Need-element-write-occupants-2
+element-write-occupants-2 c =
+    let start = c .before .before .before .before .before .before .before in
+    omega (arith, second-below (start .args .k) (start .pre .0 .1))
 
 with-bit-requires : tie.Need-with-bit-requires
 with-bit-requires c κs = search needs
 
-insert-requires-2 : tie.Need-insert-requires-2
-insert-requires-2 c κs =
-    let pre = c .before .before .before .before .before .pre in
-    rw (c .with-bit .ensures) ((pre .0, pre .1, set-grown _ _ (pre .2 .below)), set-lightest _ _ _ (pre .2 .lightest))
-
-returns : tie.Need-returns
-returns c =
-    let told = c .before .before in
-    let inserted = told .before .before in
-    let start = inserted .before .before in
-    let first = rw (told .enum-told .given .1) at (inserted .insert .ensures) in
-    let second = rw (c .before .with-bit .ensures) at (c .insert2 .ensures) in
-    let a = start .args in
-    second-stays (a .places .now) (a .k) (a .word) (start .pre .2 .below) (c .insert2 .result) first second
-
 returns-2 : tie.Need-returns-2
 returns-2 c =
-    let known = c .before .before in
-    let inserted = known .before .before in
-    let start = inserted .before .before in
-    let first = rw (known .a .given .1, c .if1 .taken) at (inserted .insert .ensures) in
+    let second = c .before in
+    let first = second .before .before .before in
+    let start = first .before .before .before .before in
+    let pre = start .pre in
     let a = start .args in
-    rw (c .if1 .taken) (unmoved-stays (a .places .now) (a .k) (a .word) (start .pre .2 .below) (start .pre .2 .lightest) first)
+    let busy = rw (entry-first (a .places .now) (a .k)) at (first .if1 .left) in
+    let free = rw (entry-second (a .places .now) (a .k)) at (second .if2 .taken) in
+    let light = pre .0 .2 in
+    rw (c .with-bit .ensures, entry-second (a .places .now) (a .k)) (
+      second-free _ _ _ (light .below) (light .lightest) (pre .1) (omega arith) busy free,
+      second-occupied _ _ _ (light .below) (light .lightest) (pre .1) (pre .0 .1) free,
+    )
 
-with-bit-requires-2 : tie.Need-with-bit-requires-2
-with-bit-requires-2 c κs = search needs
+evicting-requires : tie.Need-evicting-requires
+evicting-requires c κs = search needs
 
-insert-requires-3 : tie.Need-insert-requires-3
-insert-requires-3 c κs =
-    let pre = c .before .before .before .before .before .before .before .pre in
-    rw (c .with-bit2 .ensures) ((pre .0, pre .1, set-grown _ _ (pre .2 .below)), set-lightest _ _ _ (pre .2 .lightest))
+enum-known-next : tie.Need-enum-known-next
+enum-known-next c = search needs
 
-enum-known-b : tie.Need-enum-known-b
-enum-known-b c = search needs
-
-enum-told-2 : tie.Need-enum-told-2
-enum-told-2 c = search needs
+enum-told : tie.Need-enum-told
+enum-told c = search needs
 
 returns-3 : tie.Need-returns-3
-returns-3 c =
-    let both = c .before .before in
-    let known = both .before .before .before .before in
-    let inserted = known .before .before in
-    let start = inserted .before .before in
-    let first = rw (known .a .given .1) at (inserted .insert .ensures) in
-    let second = rw (both .before .with-bit2 .ensures, c .enum-told2 .given .1) at (both .insert3 .ensures) in
-    let a = start .args in
-    first-stays (a .places .now) (a .k) (a .word) (start .pre .2 .below) _ first second
+returns-3 c = (rw (c .enum-told .given .1) at (c .before .before .evicting .ensures), refl)
 
-add-lighter : tie.Need-add-lighter
-add-lighter c = search needs
+add-occupy : tie.Need-add-occupy
+add-occupy c = search needs
 
-lighter-requires : tie.Need-lighter-requires
-lighter-requires c κs = search needs
+occupy-requires : tie.Need-occupy-requires
+occupy-requires c κs =
+    let known = c .before .before in
+    let evicted = known .before .before in
+    let start = evicted .before .before .before .before .before .before .before .before .before .before in
+    let next = rw (known .next .given .1) at (evicted .evicting .ensures) in
+    ((omega arith, start .pre .0 .1, start .pre .1 .size), next .lightest .separate)
 
 returns-4 : tie.Need-returns-4
 returns-4 c =
-    let known2 = c .before .before in
-    let both = known2 .before .before in
-    let known = both .before .before .before .before in
-    let inserted = known .before .before in
-    let start = inserted .before .before in
-    let first = rw (known .a .given .1) at (inserted .insert .ensures) in
-    let second = rw (both .before .with-bit2 .ensures, known2 .b .given .1) at (both .insert3 .ensures) in
-    let a = start .args in
-    rw (c .lighter .ensures) (lighter-stays (a .places .now) (a .k) (a .word) (start .pre .2 .below) _ _ first second)
+    let known = c .before .before .before in
+    (rw (known .next .given .1) at (known .before .before .evicting .ensures), c .occupy .ensures)
 
 pub with-key-spec : {M : Type 1} → statement M
 with-key-spec =
     tie.close
     (tie.spec
-    insert-requires
-    enum-known-a
-    enum-told
-    with-bit-requires
-    insert-requires-2
+    mul-first
+    shared-slice-read-first
+    cast-first
+    mul-if1
+    element-copy-out-if1
+    add-occupants
+    mul-occupants
+    element-write-occupants
     returns
+    add-second
+    mul-second
+    shared-slice-read-second
+    cast-second
+    mul-if2
+    element-copy-out-if2
+    add-occupants-2
+    mul-occupants-2
+    element-write-occupants-2
+    with-bit-requires
     returns-2
-    with-bit-requires-2
-    insert-requires-3
-    enum-known-b
-    enum-told-2
+    evicting-requires
+    enum-known-next
+    enum-told
     returns-3
-    add-lighter
-    lighter-requires
+    add-occupy
+    occupy-requires
     returns-4)

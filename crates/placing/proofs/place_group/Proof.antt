@@ -1,5 +1,5 @@
 -- `placing::place_group` meets its contract: each branch is one of the ways in which placing ends; under the seed found the sequence
--- taken fills, so its word is what `choices_under` answers. Assumes nothing.
+-- taken fills, so its word is what `least_choices` answers. Assumes nothing.
 use borrow.Author.Needs.{needs}
 use mathlib.Core.Path.{_≡_, refl, sym, _∙_, ap}
 use mathlib.Core.Option.{none, some}
@@ -12,6 +12,7 @@ use Rattle.refusal.specs.Answer.{firstMeaning}
 use Rattle.seeds.specs.Answer.{foundMeaning}
 use Rattle.sequence.specs.Answer.{choicesMeaning}
 use Rattle.sequence.specs.TakenLaws.{word-taken}
+use Rattle.placing.specs.PlacesLaws.{group-candidates, group-keys}
 use Rattle.placing.specs.PlacingLaws.{placing-limit, placing-large, placing-descends, placing-unseeded, placing-seeded}
 use Rattle.placing.proofs.place_group.Statement.{statement}
 use Rattle.placing.proofs.place_group.Tie as tie
@@ -67,12 +68,12 @@ enum-told c = search needs
 
 least-seed-requires : tie.Need-least-seed-requires
 least-seed-requires c κs =
-    let compared = c .before .before in
+    let compared = c .before .before .before in
     let legal-limit = compared .before .before in
     let ranged = legal-limit .before in
     let a = ranged .before .before .args in
     let legal = sym (ranged .outside .ensures) ∙ legal-limit .if1 .left in
-    (compared .before .if2 .left, (inside 1 _ (a .limit) legal) .1)
+    (compared .before .if2 .left, (inside 1 _ (a .limit) legal) .1, refl)
 
 enum-known-seed : tie.Need-enum-known-seed
 enum-known-seed c = search needs
@@ -86,7 +87,7 @@ refuse-requires-4 c κs = search needs
 returns-4 : tie.Need-returns-4
 returns-4 c =
     let searched = c .before .before .before in
-    let rising = searched .before in
+    let rising = searched .before .before in
     let compared = rising .before .before in
     let legal-limit = compared .before .before in
     let ranged = legal-limit .before in
@@ -94,21 +95,31 @@ returns-4 c =
     let legal = sym (ranged .outside .ensures) ∙ legal-limit .if1 .left in
     let up = sym (compared .first-not-above .ensures) ∙ ap firstMeaning (rising .enum-told .given .1) in
     c .refuse4 .ensures
-    ∙ sym (placing-unseeded (a .tags .now) (a .limit) legal (compared .before .if2 .left) up (sym (searched .least-seed .ensures) ∙ ap foundMeaning (c .before .enum-told2 .given .1)))
+    ∙ sym (placing-unseeded (a .tags .now) (a .limit) legal (compared .before .if2 .left) up (sym (searched .least-seed .ensures .0) ∙ ap foundMeaning (c .before .enum-told2 .given .1)))
 
-choices-under-requires : tie.Need-choices-under-requires
-choices-under-requires c κs =
-    let found = c .before in
+slice-aggregate-least-choices : tie.Need-slice-aggregate-least-choices
+slice-aggregate-least-choices c =
+    let found = c .before .before in
     let searched = found .before .before in
-    let rising = searched .before in
+    let compared = searched .before .before .before .before in
+    let a = compared .before .before .before .before .before .args in
+    let left = rw (found .seed .given .1) at (searched .least-seed .ensures .1) in
+    let laid = group-candidates (a .tags .now) _ (compared .before .if2 .left) refl (found .seed .given .0 .0) (a .limit) left in
+    sym (laid .size)
+
+cast-least-choices : tie.Need-cast-least-choices
+cast-least-choices c = search needs
+
+least-choices-requires : tie.Need-least-choices-requires
+least-choices-requires c κs =
+    let found = c .before .before in
+    let searched = found .before .before in
+    let rising = searched .before .before in
     let compared = rising .before .before in
-    let legal-limit = compared .before .before in
-    let ranged = legal-limit .before in
-    let a = ranged .before .before .args in
-    let legal = sym (ranged .outside .ensures) ∙ legal-limit .if1 .left in
-    let up = sym (compared .first-not-above .ensures) ∙ ap firstMeaning (rising .enum-told .given .1) in
-    let least = leastSeed-some (a .tags .now) (a .limit) (sym (searched .least-seed .ensures) ∙ ap foundMeaning (found .seed .given .1)) in
-    (compared .before .if2 .left, omega (arith, least .below, (inside 1 _ (a .limit) legal) .1))
+    let a = compared .before .before .before .before .before .args in
+    let small = compared .before .if2 .left in
+    let left = rw (found .seed .given .1) at (searched .least-seed .ensures .1) in
+    (small, group-candidates (a .tags .now) _ small refl (found .seed .given .0 .0) (a .limit) left)
 
 enum-known-word : tie.Need-enum-known-word
 enum-known-word c = search needs
@@ -122,36 +133,40 @@ refuse-requires-5 c κs = search needs
 returns-5 : tie.Need-returns-5
 returns-5 c =
     let chosen = c .before .before .before in
-    let found = chosen .before .before in
+    let found = chosen .before .before .before in
     let searched = found .before .before in
-    let rising = searched .before in
+    let rising = searched .before .before in
     let compared = rising .before .before in
     let legal-limit = compared .before .before in
     let ranged = legal-limit .before in
     let a = ranged .before .before .args in
     let legal = sym (ranged .outside .ensures) ∙ legal-limit .if1 .left in
     let up = sym (compared .first-not-above .ensures) ∙ ap firstMeaning (rising .enum-told .given .1) in
-    let seed-is = sym (searched .least-seed .ensures) ∙ ap foundMeaning (found .seed .given .1) in
+    let seed-is = sym (searched .least-seed .ensures .0) ∙ ap foundMeaning (found .seed .given .1) in
     let least = leastSeed-some (a .tags .now) (a .limit) seed-is in
-    let word-is = word-taken (a .tags .now) _ _ (chosen .choices-under .ensures) _ (least .fills) in
+    let left = rw (found .seed .given .1) at (searched .least-seed .ensures .1) in
+    let keys = group-keys (a .tags .now) _ (compared .before .if2 .left) refl (found .seed .given .0 .0) (a .limit) left in
+    let word-is = word-taken (a .tags .now) _ _ (rw keys at (chosen .least-choices .ensures)) _ (least .fills) in
     let never : none ≡ some _ = ap choicesMeaning (sym (c .before .enum-told3 .given .1) ∙ word-is) in
     cc
 
 returns-6 : tie.Need-returns-6
 returns-6 c =
     let chosen = c .before .before .before in
-    let found = chosen .before .before in
+    let found = chosen .before .before .before in
     let searched = found .before .before in
-    let rising = searched .before in
+    let rising = searched .before .before in
     let compared = rising .before .before in
     let legal-limit = compared .before .before in
     let ranged = legal-limit .before in
     let a = ranged .before .before .args in
     let legal = sym (ranged .outside .ensures) ∙ legal-limit .if1 .left in
     let up = sym (compared .first-not-above .ensures) ∙ ap firstMeaning (rising .enum-told .given .1) in
-    let seed-is = sym (searched .least-seed .ensures) ∙ ap foundMeaning (found .seed .given .1) in
+    let seed-is = sym (searched .least-seed .ensures .0) ∙ ap foundMeaning (found .seed .given .1) in
     let least = leastSeed-some (a .tags .now) (a .limit) seed-is in
-    let word-is = word-taken (a .tags .now) _ _ (chosen .choices-under .ensures) _ (least .fills) in
+    let left = rw (found .seed .given .1) at (searched .least-seed .ensures .1) in
+    let keys = group-keys (a .tags .now) _ (compared .before .if2 .left) refl (found .seed .given .0 .0) (a .limit) left in
+    let word-is = word-taken (a .tags .now) _ _ (rw keys at (chosen .least-choices .ensures)) _ (least .fills) in
     let same = ap choicesMeaning (sym (c .before .word .given .1) ∙ word-is) in
     let word-same : c .before .word .given .0 .0 ≡ wordOf (taken (a .tags .now) (found .seed .given .0 .0)) = cc in
     rw word-same (sym (placing-seeded (a .tags .now) (a .limit) legal (compared .before .if2 .left) up seed-is))
@@ -176,7 +191,9 @@ place-group-spec =
     enum-told-2
     refuse-requires-4
     returns-4
-    choices-under-requires
+    slice-aggregate-least-choices
+    cast-least-choices
+    least-choices-requires
     enum-known-word
     enum-told-3
     refuse-requires-5

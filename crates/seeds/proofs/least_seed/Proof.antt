@@ -2,98 +2,176 @@
 -- the first seed that something fills and no seed before it is one. The measure's 128 is more than the evictions that an insertion may
 -- make, 2 * groupMax + 1. Assumes nothing.
 use Prim.Native.Nat.{_+_, _*_, _-_}
-use mathlib.Core.Path.{refl}
+use mathlib.Core.Path.{_≡_, refl, sym, _∙_}
+use mathlib.Core.Logic.{⊎-elim}
 use native.Mathlib.Omega.{arith}
-use lib.ListN.{replicate}
+use lib.ListN.{length}
 use borrow.Author.Needs.{needs}
-use Rattle.refusal.specs.Limits.{groupMax}
-use Rattle.seeds.proofs.Turns.{Passed, passed-start, passed-more, passed-out, passed-found, word-ones, dropped, Turn, turn-start, turn-all, turn-choice, turn-place, turn-seat, turn-evicted, turn-evicted-choice, turn-evict, turn-spent}
+use Rattle.seeds.specs.Tried.{tried}
+use Rattle.seeds.proofs.Turns.{Passed, passed-start, passed-more, passed-out, passed-found, laid-next, dropped, Turn, turn-start, turn-same, turn-all, turn-place, turn-other, turn-last, next-first, turn-first, turn-second, turn-evict, turn-spent}
 use Rattle.seeds.proofs.least_seed.Statement.{statement}
 use Rattle.seeds.proofs.least_seed.Tie as tie
 
 abbrev Inv-evict : tie.InvT-evict
-Inv-evict tags limit n places next s occupied occupants₀ choices₀ seated₀ moving₀ left₀ occupants choices seated moving left =
-    Turn tags s places occupants choices seated moving left
+Inv-evict tags limit places n next s occupied others₀ seated₀ place₀ other₀ left₀ others seated place other left =
+    Turn tags s places others seated place other left
 
 abbrev μ-evict : tie.MeasureT-evict
-μ-evict tags limit n places next s occupied occupants₀ choices₀ seated₀ moving₀ left₀ occupants choices seated moving left =
+μ-evict tags limit places n next s occupied others₀ seated₀ place₀ other₀ left₀ others seated place other left =
     (n - seated) * 128 + left
 
 abbrev Inv-seeds : tie.InvT-seeds
-Inv-seeds tags limit n places₀ next₀ places next = Passed tags limit places next
+Inv-seeds tags limit places₀ n next₀ places next = Passed tags limit places₀ places next
 
 abbrev μ-seeds : tie.MeasureT-seeds
-μ-seeds tags limit n places₀ next₀ places next = limit - next
+μ-seeds tags limit places₀ n next₀ places next = limit - next
+
+size-of-requires : tie.Need-size-of-requires Inv-evict μ-evict Inv-seeds μ-seeds
+size-of-requires c κs = search needs
 
 seeds-holds : tie.Need-seeds-holds Inv-evict μ-evict Inv-seeds μ-seeds
-seeds-holds c = passed-start (c .before .args .tags .now) (c .before .args .limit) (replicate (2 * groupMax) 0) refl
+seeds-holds c =
+    let a = c .before .before .args in
+    passed-start (a .tags .now) (a .limit) (a .places .now) (omega arith)
 
 returns : tie.Need-returns Inv-evict μ-evict Inv-seeds μ-seeds
-returns c = passed-out (c .before .seeds .inv) (c .if1 .taken)
+unfolding tried
+returns c =
+    let at = c .before in
+    let next-is : at .seeds .next ≡ at .before .before .before .args .limit = omega (arith, at .seeds .inv .upto) in
+    (passed-out (omega arith) (at .seeds .inv) (c .if1 .taken), rw (← next-is) (at .seeds .inv .cells))
 
 add-next : tie.Need-add-next Inv-evict μ-evict Inv-seeds μ-seeds
 add-next c = search needs
 
-candidates-requires : tie.Need-candidates-requires Inv-evict μ-evict Inv-seeds μ-seeds
-candidates-requires c κs = search needs
-
-cast-if2 : tie.Need-cast-if2 Inv-evict μ-evict Inv-seeds μ-seeds
-cast-if2 c =
-    let at = c .before .before .before in
-    let tags = at .before .before .args .tags .now in
-    record { fits = omega (arith, word-ones tags (at .seeds .next) (c .candidates .ensures .0)) }
+lay-out-requires : tie.Need-lay-out-requires Inv-evict μ-evict Inv-seeds μ-seeds
+lay-out-requires c κs = search needs
 
 seeds-less : tie.Need-seeds-less Inv-evict μ-evict Inv-seeds μ-seeds
 seeds-less c = search needs
 
 seeds-again : tie.Need-seeds-again Inv-evict μ-evict Inv-seeds μ-seeds
 seeds-again c =
-    let at = c .before .before .before .before in
-    let tags = at .before .before .args .tags .now in
-    let called = c .before .candidates in
-    passed-more (at .seeds .inv) (called .ensures .1) (omega arith) (omega arith)
-    (dropped tags (at .seeds .next) (called .ensures .0) (c .if2 .taken))
+    let laid = c .before in
+    let at = laid .before .before .before in
+    let tags = at .before .before .before .args .tags .now in
+    passed-more (omega arith) (at .seeds .inv) (laid .lay-out .ensures .1) (omega arith)
+    (dropped tags (at .seeds .next) (laid .lay-out .ensures .0) (λ e. c .if2 .taken (e ∙ sym (at .before .size-of .ensures))))
+
+element-copy-out-place : tie.Need-element-copy-out-place Inv-evict μ-evict Inv-seeds μ-seeds
+element-copy-out-place c = search needs
+
+element-copy-out-other : tie.Need-element-copy-out-other Inv-evict μ-evict Inv-seeds μ-seeds
+element-copy-out-other c = search needs
 
 evict-holds : tie.Need-evict-holds Inv-evict μ-evict Inv-seeds μ-seeds
 evict-holds c =
-    let at = c .before .before .before .before in
-    turn-start (at .before .before .args .tags .now) (at .seeds .next) (at .seeds .places) (c .before .candidates .ensures .1) (omega arith)
+    let laid = c .before .before .before in
+    let at = laid .before .before .before in
+    turn-start (at .before .before .before .args .tags .now) (at .seeds .next) (at .seeds .places) (at .seeds .inv .size)
+    (laid .lay-out .ensures .1) (omega arith)
+
+cast-taken : tie.Need-cast-taken Inv-evict μ-evict Inv-seeds μ-seeds
+cast-taken c =
+    let at = c .before in
+    let sized = at .before .before .before .before .before .before .before .before .size-of .ensures in
+    let place = turn-place (at .evict .inv) (λ e. c .if3 .left (e ∙ sym sized)) in
+    record { fits = omega (arith, place) }
+
+mul-taken : tie.Need-mul-taken Inv-evict μ-evict Inv-seeds μ-seeds
+mul-taken c =
+    let at = c .before in
+    let sized = at .before .before .before .before .before .before .before .before .size-of .ensures in
+    let place = turn-place (at .evict .inv) (λ e. c .if3 .left (e ∙ sym sized)) in
+    omega (arith, place)
+
+array-read-taken : tie.Need-array-read-taken Inv-evict μ-evict Inv-seeds μ-seeds
+array-read-taken c =
+    let at = c .before in
+    let sized = at .before .before .before .before .before .before .before .before .size-of .ensures in
+    let place = turn-place (at .evict .inv) (λ e. c .if3 .left (e ∙ sym sized)) in
+    omega (arith, place)
+
+add-others : tie.Need-add-others Inv-evict μ-evict Inv-seeds μ-seeds
+add-others c =
+    let at = c .before in
+    let sized = at .before .before .before .before .before .before .before .before .size-of .ensures in
+    omega (arith, turn-other (at .evict .inv) (λ e. c .if3 .left (e ∙ sym sized)))
+
+cast-others : tie.Need-cast-others Inv-evict μ-evict Inv-seeds μ-seeds
+cast-others c =
+    let at = c .before in
+    let sized = at .before .before .before .before .before .before .before .before .size-of .ensures in
+    let place = turn-place (at .evict .inv) (λ e. c .if3 .left (e ∙ sym sized)) in
+    record { fits = omega (arith, place) }
+
+mul-others : tie.Need-mul-others Inv-evict μ-evict Inv-seeds μ-seeds
+mul-others c =
+    let at = c .before in
+    let sized = at .before .before .before .before .before .before .before .before .size-of .ensures in
+    let place = turn-place (at .evict .inv) (λ e. c .if3 .left (e ∙ sym sized)) in
+    omega (arith, place)
+
+array-write-others : tie.Need-array-write-others Inv-evict μ-evict Inv-seeds μ-seeds
+array-write-others c =
+    let at = c .before in
+    let sized = at .before .before .before .before .before .before .before .before .size-of .ensures in
+    let place = turn-place (at .evict .inv) (λ e. c .if3 .left (e ∙ sym sized)) in
+    omega (arith, place)
+
+add-seated : tie.Need-add-seated Inv-evict μ-evict Inv-seeds μ-seeds
+add-seated c = search needs
+
+cast-place : tie.Need-cast-place Inv-evict μ-evict Inv-seeds μ-seeds
+cast-place c = search needs
 
 mul-place : tie.Need-mul-place Inv-evict μ-evict Inv-seeds μ-seeds
 mul-place c = search needs
 
-mul-place-2 : tie.Need-mul-place-2 Inv-evict μ-evict Inv-seeds μ-seeds
-mul-place-2 c = search needs
+element-copy-out-place-2 : tie.Need-element-copy-out-place-2 Inv-evict μ-evict Inv-seeds μ-seeds
+element-copy-out-place-2 c = search needs
 
-array-read-place : tie.Need-array-read-place Inv-evict μ-evict Inv-seeds μ-seeds
-array-read-place c = search needs
+cast-other : tie.Need-cast-other Inv-evict μ-evict Inv-seeds μ-seeds
+cast-other c = search needs
 
-add-place : tie.Need-add-place Inv-evict μ-evict Inv-seeds μ-seeds
-add-place c = omega (arith, turn-choice (c .before .evict .inv) (c .if3 .left))
+add-other : tie.Need-add-other Inv-evict μ-evict Inv-seeds μ-seeds
+add-other c = search needs
 
-mul-place-3 : tie.Need-mul-place-3 Inv-evict μ-evict Inv-seeds μ-seeds
-mul-place-3 c = omega (arith, turn-choice (c .before .evict .inv) (c .if3 .left))
+mul-other : tie.Need-mul-other Inv-evict μ-evict Inv-seeds μ-seeds
+mul-other c = search needs
 
-array-read-place-2 : tie.Need-array-read-place-2 Inv-evict μ-evict Inv-seeds μ-seeds
-array-read-place-2 c = omega (arith, turn-choice (c .before .evict .inv) (c .if3 .left))
+element-copy-out-other-2 : tie.Need-element-copy-out-other-2 Inv-evict μ-evict Inv-seeds μ-seeds
+element-copy-out-other-2 c = search needs
 
-mul-occupant : tie.Need-mul-occupant Inv-evict μ-evict Inv-seeds μ-seeds
-mul-occupant c = omega (arith, turn-place (c .before .evict .inv) (c .if3 .left))
+cast-if6 : tie.Need-cast-if6 Inv-evict μ-evict Inv-seeds μ-seeds
+cast-if6 c =
+    let entering = c .before .before in
+    let free = entering .before in
+    let turned = free .before in
+    let at = turned .before in
+    let sized = at .before .before .before .before .before .before .before .before .size-of .ensures in
+    let below = next-first (at .evict .inv) (λ e. turned .if3 .left (e ∙ sym sized)) (free .if4 .taken) (omega arith) in
+    record { fits = omega (arith, below) }
 
-array-read-occupant : tie.Need-array-read-occupant Inv-evict μ-evict Inv-seeds μ-seeds
-array-read-occupant c = omega (arith, turn-place (c .before .evict .inv) (c .if3 .left))
+mul-if6 : tie.Need-mul-if6 Inv-evict μ-evict Inv-seeds μ-seeds
+mul-if6 c =
+    let entering = c .before .before in
+    let free = entering .before in
+    let turned = free .before in
+    let at = turned .before in
+    let sized = at .before .before .before .before .before .before .before .before .size-of .ensures in
+    let below = next-first (at .evict .inv) (λ e. turned .if3 .left (e ∙ sym sized)) (free .if4 .taken) (omega arith) in
+    omega (arith, below)
 
-add-occupants : tie.Need-add-occupants Inv-evict μ-evict Inv-seeds μ-seeds
-add-occupants c = search needs
-
-mul-occupants : tie.Need-mul-occupants Inv-evict μ-evict Inv-seeds μ-seeds
-mul-occupants c = omega (arith, turn-place (c .before .evict .inv) (c .if3 .left))
-
-array-write-occupants : tie.Need-array-write-occupants Inv-evict μ-evict Inv-seeds μ-seeds
-array-write-occupants c = omega (arith, turn-place (c .before .evict .inv) (c .if3 .left))
-
-add-seated : tie.Need-add-seated Inv-evict μ-evict Inv-seeds μ-seeds
-add-seated c = search needs
+array-read-if6 : tie.Need-array-read-if6 Inv-evict μ-evict Inv-seeds μ-seeds
+array-read-if6 c =
+    let entering = c .before .before in
+    let free = entering .before in
+    let turned = free .before in
+    let at = turned .before in
+    let sized = at .before .before .before .before .before .before .before .before .size-of .ensures in
+    let below = next-first (at .evict .inv) (λ e. turned .if3 .left (e ∙ sym sized)) (free .if4 .taken) (omega arith) in
+    omega (arith, below)
 
 mul-left : tie.Need-mul-left Inv-evict μ-evict Inv-seeds μ-seeds
 mul-left c = search needs
@@ -105,56 +183,58 @@ evict-less : tie.Need-evict-less Inv-evict μ-evict Inv-seeds μ-seeds
 evict-less c = search needs
 
 evict-again : tie.Need-evict-again Inv-evict μ-evict Inv-seeds μ-seeds
-evict-again c = turn-seat (c .before .before .evict .inv) (c .before .if3 .left) (c .if4 .taken)
+evict-again c =
+    let free = c .before in
+    let turned = free .before in
+    let at = turned .before in
+    let size-of = at .before .before .before .before .before .before .before .before in
+    let more : at .evict .seated ≡ length (size-of .before .before .args .tags .now) → ⊥ =
+    λ e. turned .if3 .left (e ∙ sym (size-of .size-of .ensures)) in
+    ⊎-elim
+    (λ p. turn-same (p .4) (p .5) (turn-second (at .evict .inv) more (free .if4 .taken) (omega (arith, p .0 .taken))))
+    (λ rest. ⊎-elim
+    (λ p. turn-same (p .4) (p .5) (turn-first (at .evict .inv) more (free .if4 .taken) (omega (arith, p .0 .taken))))
+    (λ p. turn-same (p .1) (p .2) (turn-last (at .evict .inv) more (free .if4 .taken) (omega (arith, p .0 .left))))
+    rest)
+    (c .if5 .came)
 
 seeds-less-2 : tie.Need-seeds-less-2 Inv-evict μ-evict Inv-seeds μ-seeds
 seeds-less-2 c = search needs
 
 seeds-again-2 : tie.Need-seeds-again-2 Inv-evict μ-evict Inv-seeds μ-seeds
 seeds-again-2 c =
-    let evict = c .before .before .before in
-    let at = evict .before .before .before .before .before in
-    passed-more (at .seeds .inv) (evict .before .before .candidates .ensures .1) (omega arith) (omega arith)
-    (turn-spent (evict .evict .inv) (c .before .before .if3 .left) (c .before .if4 .left) (c .if5 .taken))
+    let turned = c .before .before in
+    let at = turned .before in
+    let laid = at .before .before .before .before in
+    let seeds = laid .before .before .before in
+    let sized = seeds .before .size-of .ensures in
+    passed-more (omega arith) (seeds .seeds .inv) (laid .lay-out .ensures .1) (omega arith)
+    (turn-spent (at .evict .inv) (λ e. turned .if3 .left (e ∙ sym sized)) (c .before .if4 .left) (c .if7 .taken))
 
 sub-left : tie.Need-sub-left Inv-evict μ-evict Inv-seeds μ-seeds
 sub-left c = search needs
 
-sub-moving : tie.Need-sub-moving Inv-evict μ-evict Inv-seeds μ-seeds
-sub-moving c = search needs
-
-mul-choices : tie.Need-mul-choices Inv-evict μ-evict Inv-seeds μ-seeds
-mul-choices c =
-    omega (arith, turn-evicted (c .before .before .before .evict .inv) (c .before .before .if3 .left) (c .before .if4 .left))
-
-array-read-choices : tie.Need-array-read-choices Inv-evict μ-evict Inv-seeds μ-seeds
-array-read-choices c =
-    omega (arith, turn-evicted (c .before .before .before .evict .inv) (c .before .before .if3 .left) (c .before .if4 .left))
-
-sub-choices : tie.Need-sub-choices Inv-evict μ-evict Inv-seeds μ-seeds
-sub-choices c =
-    omega (arith, turn-evicted-choice (c .before .before .before .evict .inv) (c .before .before .if3 .left) (c .before .if4 .left))
-
-mul-choices-2 : tie.Need-mul-choices-2 Inv-evict μ-evict Inv-seeds μ-seeds
-mul-choices-2 c =
-    omega (arith, turn-evicted (c .before .before .before .evict .inv) (c .before .before .if3 .left) (c .before .if4 .left))
-
-array-write-choices : tie.Need-array-write-choices Inv-evict μ-evict Inv-seeds μ-seeds
-array-write-choices c =
-    omega (arith, turn-evicted (c .before .before .before .evict .inv) (c .before .before .if3 .left) (c .before .if4 .left))
+sub-place : tie.Need-sub-place Inv-evict μ-evict Inv-seeds μ-seeds
+sub-place c = search needs
 
 evict-less-2 : tie.Need-evict-less-2 Inv-evict μ-evict Inv-seeds μ-seeds
 evict-less-2 c = search needs
 
 evict-again-2 : tie.Need-evict-again-2 Inv-evict μ-evict Inv-seeds μ-seeds
 evict-again-2 c =
-    turn-evict (c .before .before .before .evict .inv) (c .before .before .if3 .left) (c .before .if4 .left) (c .if5 .left)
+    let turned = c .before .before in
+    let at = turned .before in
+    let sized = at .before .before .before .before .before .before .before .before .size-of .ensures in
+    turn-evict (at .evict .inv) (λ e. turned .if3 .left (e ∙ sym sized)) (c .before .if4 .left) (c .if7 .left)
 
 returns-2 : tie.Need-returns-2 Inv-evict μ-evict Inv-seeds μ-seeds
+unfolding tried
 returns-2 c =
-    let at = c .before .before .before .before .before .before in
-    let (cs, fills) = turn-all (c .before .evict .inv) (c .if3 .taken) in
-    passed-found (at .seeds .inv) (omega arith) cs fills
+    let at = c .before in
+    let laid = at .before .before .before .before in
+    let seeds = laid .before .before .before in
+    let (cs, fills) = turn-all (at .evict .inv) (c .if3 .taken ∙ seeds .before .size-of .ensures) in
+    (passed-found (omega arith) (seeds .seeds .inv) (omega arith) cs fills, laid-next (omega arith) (seeds .seeds .inv) (laid .lay-out .ensures .1))
 
 pub least-seed-spec : {M : Type 1} → statement M
 least-seed-spec =
@@ -164,26 +244,34 @@ least-seed-spec =
     μ-evict
     Inv-seeds
     μ-seeds
+    size-of-requires
     seeds-holds
     returns
     add-next
-    candidates-requires
-    cast-if2
+    lay-out-requires
     seeds-less
     seeds-again
+    element-copy-out-place
+    element-copy-out-other
     evict-holds
-    mul-place
-    mul-place-2
-    array-read-place
-    add-place
-    mul-place-3
-    array-read-place-2
-    mul-occupant
-    array-read-occupant
-    add-occupants
-    mul-occupants
-    array-write-occupants
+    cast-taken
+    mul-taken
+    array-read-taken
+    add-others
+    cast-others
+    mul-others
+    array-write-others
     add-seated
+    cast-place
+    mul-place
+    element-copy-out-place-2
+    cast-other
+    add-other
+    mul-other
+    element-copy-out-other-2
+    cast-if6
+    mul-if6
+    array-read-if6
     mul-left
     add-left
     evict-less
@@ -191,12 +279,7 @@ least-seed-spec =
     seeds-less-2
     seeds-again-2
     sub-left
-    sub-moving
-    mul-choices
-    array-read-choices
-    sub-choices
-    mul-choices-2
-    array-write-choices
+    sub-place
     evict-less-2
     evict-again-2
     returns-2)

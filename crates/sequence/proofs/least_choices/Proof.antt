@@ -1,28 +1,34 @@
--- `sequence::least_choices` meets its contract: the word is the lightest of the first k keys, and the lightest of all is the least.
--- Assumes nothing.
+-- `sequence::least_choices` meets its contract: the word is the lightest of the first k keys, the cells hold its occupants, and
+-- the lightest of all is the least. Assumes nothing.
 use Prim.Native.Nat.{_-_, _≤_}
 use mathlib.Core.Path.{_≡_}
 use native.Mathlib.Omega.{arith}
 use borrow.Author.Needs.{needs}
 use Rattle.filling.specs.InsertionLaws.{lightest-empty}
+use Rattle.insertion.specs.EntryLaws.{candidates-fewer}
+use Rattle.insertion.specs.Occupants.{Occupied}
+use Rattle.insertion.specs.OccupantsLaws.{occupied-empty}
 use Rattle.insertion.specs.Inserted.{LightestWord}
 use Rattle.sequence.specs.LeastWordLaws.{lightest-word, nothing-word}
 use Rattle.sequence.proofs.least_choices.Statement.{statement}
 use Rattle.sequence.proofs.least_choices.Tie as tie
 
 abbrev Inv-loop : tie.InvT-loop
-Inv-loop places count word₀ k₀ word k = (k ≤ count) × LightestWord places k word
+Inv-loop places count occupants₀ word₀ k₀ occupants word k =
+    (k ≤ count) × LightestWord places k word × Occupied places word k occupants
 
 abbrev μ-loop : tie.MeasureT-loop
-μ-loop places count word₀ k₀ word k = count - k
+μ-loop places count occupants₀ word₀ k₀ occupants word k = count - k
 
 loop-holds : tie.Need-loop-holds Inv-loop μ-loop
-loop-holds c = (omega arith, record { below = omega arith; lightest = lightest-empty _ _ _ })
+loop-holds c = (omega arith, record { below = omega arith; lightest = lightest-empty _ _ _ }, occupied-empty _ _)
 
 with-key-requires : tie.Need-with-key-requires Inv-loop μ-loop
 with-key-requires c κs =
-    let inv = c .before .loop .inv in
-    (omega arith, omega arith, inv .1)
+    let at = c .before .before in
+    let inv = at .loop .inv in
+    let pre = at .before .before .pre in
+    ((omega arith, candidates-fewer _ (omega arith) (pre .1), inv .1), inv .2)
 
 enum-known-next : tie.Need-enum-known-next Inv-loop μ-loop
 enum-known-next c = search needs
@@ -33,10 +39,11 @@ enum-told c = search needs
 returns : tie.Need-returns Inv-loop μ-loop
 returns c =
     let step = c .before .before in
-    let start = step .before .before .before .before in
-    let nothing = rw (c .enum-told .given .1) at (step .with-key .ensures) in
+    let turn = step .before .before in
+    let start = turn .before .before .before in
+    let nothing = rw (c .enum-told .given .1) at (step .with-key .ensures .0) in
     let a = start .args in
-    cc (nothing-word (a .places .now) (a .count) (start .pre .0) (nothing (a .count) (step .before .loop-test .taken)))
+    cc (nothing-word (a .places .now) (a .count) (nothing (a .count) (turn .loop-test .taken)))
 
 add-k : tie.Need-add-k Inv-loop μ-loop
 add-k c = search needs
@@ -47,9 +54,10 @@ loop-less c = search needs
 loop-again : tie.Need-loop-again Inv-loop μ-loop
 loop-again c =
     let step = c .before .before .before in
-    let next = rw (c .before .next .given .1) at (step .with-key .ensures) in
-    let lt = step .before .loop-test .taken in
-    (omega arith, next)
+    let next = rw (c .before .next .given .1) at (step .with-key .ensures .0) in
+    let cells = rw (c .before .next .given .1) at (step .with-key .ensures .1) in
+    let lt = step .before .before .loop-test .taken in
+    (omega arith, next, cells)
 
 returns-2 : tie.Need-returns-2 Inv-loop μ-loop
 returns-2 c =
@@ -58,7 +66,7 @@ returns-2 c =
     let all : at .k ≡ start .args .count = omega arith in
     let a = start .args in
     let light = rw all at (at .inv .1) in
-    cc (lightest-word (a .places .now) (a .count) (start .pre .0) (at .word) (start .pre .1) light)
+    cc (lightest-word (a .places .now) (a .count) (at .word) (omega arith) light)
 
 pub least-choices-spec : {M : Type 1} → statement M
 least-choices-spec =

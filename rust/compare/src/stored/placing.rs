@@ -6,10 +6,12 @@ pub fn write(output: &mut Output) {
     // 24 tags pass to the search, 25 do not: one less than each power of two from 4 on.
     let full: Vec<u32> = (2..26).map(|power| (1 << power) - 1).collect();
     let fuller: Vec<u32> = (2..27).map(|power| (1 << power) - 1).collect();
-    let cases: [(&[u32], u32); 20] = [
+    let cases: [(&[u32], u32); 22] = [
         (&[0, 2, 3_044_110_112], 9),
+        (&[81, 134, 298, 325], 1),
         (&[14, 337_764_173, 964_266_638, 2_787_973_142], 9),
         (&[599, 1_193], 1),
+        (&[1, 2, 12], 1),
         (&[24, 1_445_023_297], 1),
         (&[6, 8, 33, 37, 39, 55], 99),
         (&[61, 152], 1),

@@ -1,27 +1,65 @@
--- `sequence::worked::word_of_two_fillings` meets its contract: by the promise of `choices_under` the answer is the word that the
+-- `sequence::worked::word_of_two_fillings` meets its contract: by the promise of `least_choices` the answer is the word that the
 -- definition computes to. Assumes nothing.
+use Prim.Native.Nat.{ℕ, zero, suc, _<_}
+use mathlib.Core.Path.{_≡_, refl, _∙_}
+use mathlib.Core.Bool.{Bool, true, false}
+use mathlib.Core.List.{List}
+use mathlib.Core.Option.{none, some, orElse, Option·map}
+use native.Mathlib.Omega.{arith}
 use borrow.Author.Needs.{needs}
-use mathlib.Core.Path.{_≡_, refl}
-use mathlib.Core.List.{[], _∷_}
-use mathlib.Core.Option.{some, orElse, Option·map}
-use Rattle.hash.specs.Formula.{product, highPart, hashed, multiplier, placeOf}
+use lib.ListN.{replicate, set}
+use Rattle.refusal.specs.Limits.{groupMax}
 use Rattle.filling.specs.Places.{occurs}
 use Rattle.filling.specs.Filling.{placeBy}
 use Rattle.filling.specs.Least.{beginning, leastFrom, least}
 use Rattle.filling.specs.Word.{choiceNumber, wordOf}
-use Rattle.group.specs.Group.{bothPlaces, candidates, groupUnder}
+use Rattle.insertion.specs.Entry.{entryOf, Candidates}
+use Rattle.sequence.specs.Keys.{keysOf}
 use Rattle.sequence.proofs.worked.word_of_two_fillings.Statement.{statement}
 use Rattle.sequence.proofs.worked.word_of_two_fillings.Tie as tie
 
-computed : Option·map wordOf (least (groupUnder (599 ∷ 1193 ∷ []) 0)) ≡ some 2
-unfolding least leastFrom beginning orElse occurs placeBy wordOf choiceNumber candidates bothPlaces placeOf multiplier hashed highPart product
+-- The array of the two keys.
+abbrev places : List ℕ
+places = set (set (replicate 48 0) 24 1) 25 1
+
+candidates : Candidates places 2
+unfolding entryOf choiceNumber
+candidates = record { size = refl; below = below }
+  where
+    below : (i : ℕ) → i < 2 → (choice : Bool) → entryOf places i choice < groupMax
+    below zero lt false = omega arith
+    below zero lt true = omega arith
+    below (suc zero) lt false = omega arith
+    below (suc zero) lt true = omega arith
+    below (suc (suc i)) lt choice = absurd (omega arith)
+
+computed : Option·map wordOf (least (keysOf 2 places)) ≡ some 2
+unfolding keysOf least leastFrom beginning orElse occurs placeBy wordOf choiceNumber
 computed = refl
 
-slice-aggregate-choices-under : tie.Need-slice-aggregate-choices-under
-slice-aggregate-choices-under c = search needs
+same : {x y : ℕ} → some x ≡ some y → x ≡ y
+same e = cc
 
-choices-under-requires : tie.Need-choices-under-requires
-choices-under-requires c κs = search needs
+never : {x : ℕ} → none ≡ some x → ⊥
+never e = let z : _≡_ {A = ℕ} 0 1 = cc in omega arith
+
+array-write-places : tie.Need-array-write-places
+array-write-places c = search needs
+
+add-places : tie.Need-add-places
+add-places c = search needs
+
+mul-places : tie.Need-mul-places
+mul-places c = search needs
+
+array-write-places-2 : tie.Need-array-write-places-2
+array-write-places-2 c = search needs
+
+slice-aggregate-least-choices : tie.Need-slice-aggregate-least-choices
+slice-aggregate-least-choices c = search needs
+
+least-choices-requires : tie.Need-least-choices-requires
+least-choices-requires c κs = (omega arith, candidates)
 
 enum-known-word : tie.Need-enum-known-word
 enum-known-word c = search needs
@@ -31,20 +69,24 @@ enum-told c = search needs
 
 returns : tie.Need-returns
 returns c =
-    let promised = rw (c .before .word .given .1) at (c .before .before .before .choices-under .ensures) in
-    cc computed
+    let promised = rw (c .before .word .given .1) at (c .before .before .before .least-choices .ensures) in
+    same (promised ∙ computed)
 
 returns-2 : tie.Need-returns-2
 returns-2 c =
-    let promised = rw (c .enum-told .given .1) at (c .before .before .choices-under .ensures) in
-    cc computed
+    let promised = rw (c .enum-told .given .1) at (c .before .before .least-choices .ensures) in
+    absurd (never (promised ∙ computed))
 
 pub word-of-two-fillings-spec : {M : Type 1} → statement M
 word-of-two-fillings-spec =
     tie.close
     (tie.spec
-    slice-aggregate-choices-under
-    choices-under-requires
+    array-write-places
+    add-places
+    mul-places
+    array-write-places-2
+    slice-aggregate-least-choices
+    least-choices-requires
     enum-known-word
     enum-told
     returns

@@ -1,0 +1,116 @@
+-- `insertion::occupy` meets its contract: the cells are cleared, and hold the occupants of the first i keys. Assumes nothing.
+use Prim.Native.Nat.{_-_, _≤_, _<_}
+use mathlib.Core.Path.{_≡_, refl}
+use native.Mathlib.Omega.{arith}
+use borrow.Author.Needs.{needs}
+use Rattle.refusal.specs.Limits.{groupMax}
+use Rattle.insertion.specs.WordBits.{choiceIn}
+use Rattle.insertion.specs.Occupants.{Occupied}
+use Rattle.insertion.specs.OccupantsLaws.{Cleared, cleared-turn, occupied-none, separate-free, occupied-more}
+use Rattle.insertion.proofs.occupy.Statement.{statement}
+use Rattle.insertion.proofs.occupy.Tie as tie
+
+abbrev Inv-loop : tie.InvT-loop
+Inv-loop places word count occupants₀ v₀ occupants v = (v ≤ groupMax) × Cleared v occupants
+
+abbrev μ-loop : tie.MeasureT-loop
+μ-loop places word count occupants₀ v₀ occupants v = groupMax - v
+
+abbrev Inv-loop2 : tie.InvT-loop2
+Inv-loop2 places word count occupants₀ v i₀ occupants i = (i ≤ count) × Occupied places word i occupants
+
+abbrev μ-loop2 : tie.MeasureT-loop2
+μ-loop2 places word count occupants₀ v i₀ occupants i = count - i
+
+loop-holds : tie.Need-loop-holds Inv-loop μ-loop Inv-loop2 μ-loop2
+loop-holds c = (omega arith, record { size = c .before .pre .0 .2; clear = λ u lt. absurd (omega arith) })
+
+mul-occupants : tie.Need-mul-occupants Inv-loop μ-loop Inv-loop2 μ-loop2
+mul-occupants c = search needs
+
+element-write-occupants : tie.Need-element-write-occupants Inv-loop μ-loop Inv-loop2 μ-loop2
+element-write-occupants c = search needs
+
+add-v : tie.Need-add-v Inv-loop μ-loop Inv-loop2 μ-loop2
+add-v c = search needs
+
+loop-less : tie.Need-loop-less Inv-loop μ-loop Inv-loop2 μ-loop2
+loop-less c = search needs
+
+loop-again : tie.Need-loop-again Inv-loop μ-loop Inv-loop2 μ-loop2
+loop-again c =
+    let at = c .before in
+    (omega arith, cleared-turn (at .loop .v) (at .loop .occupants) (omega arith) (at .loop .inv .1))
+
+loop2-holds : tie.Need-loop2-holds Inv-loop μ-loop Inv-loop2 μ-loop2
+loop2-holds c =
+    let at = c .before .loop in
+    let all : at .v ≡ groupMax = omega arith in
+    (omega arith, occupied-none _ _ (rw all at (at .inv .1)))
+
+place-taken-requires : tie.Need-place-taken-requires Inv-loop μ-loop Inv-loop2 μ-loop2
+place-taken-requires c κs = search needs
+
+cast-place : tie.Need-cast-place Inv-loop μ-loop Inv-loop2 μ-loop2
+cast-place c = search needs
+
+add-occupants : tie.Need-add-occupants Inv-loop μ-loop Inv-loop2 μ-loop2
+add-occupants c = search needs
+
+mul-occupants-2 : tie.Need-mul-occupants-2 Inv-loop μ-loop Inv-loop2 μ-loop2
+mul-occupants-2 c = search needs
+
+element-write-occupants-2 : tie.Need-element-write-occupants-2 Inv-loop μ-loop Inv-loop2 μ-loop2
+element-write-occupants-2 c =
+    let at = c .before .before in
+    let start = at .before .before .before .before in
+    let i = at .loop2 .i in
+    omega (arith, c .place-taken .ensures, start .pre .0 .1 .below i (omega arith) (choiceIn (start .args .word) i))
+
+add-i : tie.Need-add-i Inv-loop μ-loop Inv-loop2 μ-loop2
+add-i c = search needs
+
+loop2-less : tie.Need-loop2-less Inv-loop μ-loop Inv-loop2 μ-loop2
+loop2-less c = search needs
+
+loop2-again : tie.Need-loop2-again Inv-loop μ-loop Inv-loop2 μ-loop2
+loop2-again c =
+    let at = c .before .before in
+    let start = at .before .before .before .before in
+    let i = at .loop2 .i in
+    let w = start .args .word in
+    let more : i < start .args .count = c .before .loop2-test .taken in
+    let below = start .pre .0 .1 .below i more (choiceIn w i) in
+    let free = separate-free _ (at .loop2 .inv .1) (start .args .count) more (start .pre .1) in
+    (omega arith, rw (c .place-taken .ensures) (occupied-more _ (at .loop2 .inv .1) _ refl below free))
+
+returns : tie.Need-returns Inv-loop μ-loop Inv-loop2 μ-loop2
+returns c =
+    let at = c .before .loop2 in
+    let all : at .i ≡ c .before .before .before .before .before .args .count = omega arith in
+    rw all at (at .inv .1)
+
+pub occupy-spec : {M : Type 1} → statement M
+occupy-spec =
+    tie.close
+    (tie.spec
+    Inv-loop
+    μ-loop
+    Inv-loop2
+    μ-loop2
+    loop-holds
+    mul-occupants
+    element-write-occupants
+    add-v
+    loop-less
+    loop-again
+    loop2-holds
+    place-taken-requires
+    cast-place
+    add-occupants
+    mul-occupants-2
+    element-write-occupants-2
+    add-i
+    loop2-less
+    loop2-again
+    returns)

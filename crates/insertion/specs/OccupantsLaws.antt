@@ -1,0 +1,117 @@
+-- The laws of the cells of occupants: one key more at a free place, and the same choices. Assumes nothing.
+use Prim.Native.Nat.{ℕ, zero, suc, _+_, _-_, _≤_, _<_}
+use mathlib.Core.Path.{_≡_, refl, sym, _∙_}
+use mathlib.Core.List.{List}
+use native.Mathlib.Decide.{ℕ-discrete, decLt}
+use native.Mathlib.Omega.{arith}
+use lib.ListN.{length, getD, set, replicate, length-set, length-replicate, getD-replicate, List·getD-eq-default}
+use lib.Seq.{getD-set-same, getD-set-other}
+use Rattle.refusal.specs.Limits.{groupMax}
+use Rattle.filling.specs.Insertion.{Separate, Taken}
+use Rattle.insertion.specs.Entry.{entryOf}
+use Rattle.insertion.specs.WordBits.{choiceIn}
+use Rattle.insertion.specs.Occupants.{Occupied}
+
+-- The first v of the cells are 0.
+pub record Cleared (v : ℕ) (cells : List ℕ) : Type 0 where
+  pub size : length cells ≡ groupMax
+  pub clear : (u : ℕ) → u < v → getD cells u 0 ≡ 0
+
+pub cleared-turn : (v : ℕ) (cells : List ℕ) → v < groupMax → Cleared v cells → Cleared (v + 1) (set cells v 0)
+cleared-turn v cells lt old = record {
+  size = length-set cells v 0 ∙ old .size;
+  clear = λ u lu. go u lu (ℕ-discrete u v);
+}
+  where
+    go : (u : ℕ) → u < v + 1 → Dec (u ≡ v) → getD (set cells v 0) u 0 ≡ 0
+    go u lu (yes e) = rw e (getD-set-same cells v 0 0 (omega (arith, old .size)))
+    go u lu (no n) = getD-set-other cells v u 0 0 n ∙ old .clear u (omega (arith, n))
+
+module _ (places : List ℕ) where
+  -- No key: all cells are 0.
+  pub occupied-none : (word : ℕ) {cells : List ℕ} → Cleared groupMax cells → Occupied places word 0 cells
+  occupied-none word {cells} all = record {
+    size = all .size;
+    sits = λ i lt. absurd (omega arith);
+    who = λ v o e. absurd (nobody v o e (decLt v groupMax));
+  }
+    where
+      nobody : (v o : ℕ) → getD cells v 0 ≡ o + 1 → Dec (v < groupMax) → ⊥
+      nobody v o e (yes lt) = omega (arith, all .clear v lt)
+      nobody v o e (no n) =
+          let past : length cells ≤ v = omega (arith, n, all .size) in
+          omega (arith, List·getD-eq-default cells 0 past)
+
+  pub occupied-empty : (word : ℕ) → Occupied places word 0 (replicate groupMax 0)
+  occupied-empty word =
+      occupied-none word (record {
+        size = length-replicate {A = ℕ} groupMax 0;
+        clear = λ u lt. getD-replicate {A = ℕ} groupMax u 0 0 lt;
+      })
+
+  -- Only the choices of the keys count.
+  pub occupied-same : (word other count : ℕ) {cells : List ℕ} → ((i : ℕ) → i < count → choiceIn word i ≡ choiceIn other i)
+      → Occupied places word count cells → Occupied places other count cells
+  occupied-same word other count {cells} same old = record {
+    size = old .size;
+    sits = λ i lt. rw (← same i lt) (old .sits i lt);
+    who = λ v o e. let (lt, at) = old .who v o e in (lt, rw (← same o lt) at);
+  }
+
+  module _ {word count : ℕ} {cells : List ℕ} (old : Occupied places word count cells) where
+    -- A free place is that of no key,
+    pub free-untaken : (v : ℕ) → getD cells v 0 ≡ 0 → Taken (entryOf places) count (choiceIn word) v → ⊥
+    free-untaken v free (o, lt, at) = omega (arith, rw at at (old .sits o lt))
+
+    -- and another that of its occupant.
+    pub cell-taken : (v : ℕ) → (getD cells v 0 ≡ 0 → ⊥) → Taken (entryOf places) count (choiceIn word) v
+    cell-taken v busy = go (getD cells v 0) refl
+      where
+        go : (x : ℕ) → getD cells v 0 ≡ x → Taken (entryOf places) count (choiceIn word) v
+        go zero e = absurd (busy e)
+        go (suc o) e = let (lt, at) = old .who v o (omega (arith, e)) in (o, lt, at)
+
+    -- The occupant is one of the keys.
+    pub occupant-within : (v : ℕ) → (getD cells v 0 ≡ 0 → ⊥) → getD cells v 0 - 1 < count
+    occupant-within v busy = old .who v (getD cells v 0 - 1) (omega (arith, busy)) .0
+
+    -- A place that no other key takes is free.
+    pub separate-free : (all : ℕ) → count < all → Separate (entryOf places) all (choiceIn word)
+        → getD cells (entryOf places count (choiceIn word count)) 0 ≡ 0
+    separate-free all more apart = go (getD cells (entryOf places count (choiceIn word count)) 0) refl
+      where
+        go : (x : ℕ) → getD cells (entryOf places count (choiceIn word count)) 0 ≡ x → x ≡ 0
+        go zero e = refl
+        go (suc o) e =
+            let (lt, at) = old .who (entryOf places count (choiceIn word count)) o (omega (arith, e)) in
+            let clash = apart o count (omega arith) (omega arith) at in
+            absurd (omega arith)
+
+    -- One key more at a free place.
+    pub occupied-more : (v : ℕ) → entryOf places count (choiceIn word count) ≡ v → v < groupMax → getD cells v 0 ≡ 0
+        → Occupied places word (count + 1) (set cells v (count + 1))
+    occupied-more v at below free = record {
+      size = length-set cells v (count + 1) ∙ old .size;
+      sits = λ i lt. sits′ i lt (ℕ-discrete i count);
+      who = λ u o e. who′ u o e (ℕ-discrete u v);
+    }
+      where
+        here : getD (set cells v (count + 1)) v 0 ≡ count + 1
+        here = getD-set-same cells v (count + 1) 0 (omega (arith, old .size))
+
+        sits′ : (i : ℕ) → i < count + 1 → Dec (i ≡ count)
+            → getD (set cells v (count + 1)) (entryOf places i (choiceIn word i)) 0 ≡ i + 1
+        sits′ i lt (yes e) = rw (e, at) here
+        sits′ i lt (no n) =
+            let sat = old .sits i (omega (arith, n)) in
+            let apart : entryOf places i (choiceIn word i) ≡ v → ⊥ = λ z. omega (arith, rw z at sat) in
+            getD-set-other cells v (entryOf places i (choiceIn word i)) (count + 1) 0 apart ∙ sat
+
+        who′ : (u o : ℕ) → getD (set cells v (count + 1)) u 0 ≡ o + 1 → Dec (u ≡ v)
+            → (o < count + 1) × (entryOf places o (choiceIn word o) ≡ u)
+        who′ u o e (yes z) =
+            let own : o ≡ count = omega (arith, here, rw z at e) in
+            (omega arith, rw (own, z) at)
+        who′ u o e (no n) =
+            let (lt, was) = old .who u o (sym (getD-set-other cells v u (count + 1) 0 n) ∙ e) in
+            (omega arith, was)
