@@ -133,5 +133,9 @@ fn place_taken(places: &[u32], word: u32, i: u32) -> u32
     requires { ⌜ (i < groupMax) × (length (now places) ≡ 2 * groupMax) ⌝ }
     ensures answer { λ r. ⌜ r ≡ entryOf (now (places .entry)) i (choiceIn word i) ⌝ }
 {
-    places[(refusal::GROUP_MAX * choice_at(word, i) + i) as usize]
+    if choice_at(word, i) == 1 {
+        places[OCCUPANT_CELLS + i as usize]
+    } else {
+        places[i as usize]
+    }
 }

@@ -1,49 +1,57 @@
--- `insertion::place_taken` meets its contract: the entry read is 24 times the choice plus i, and a choice is at most 1.
+-- `insertion::place_taken` meets its contract: choice 1 takes the entry from the array's middle on, choice 0 the one before it.
 -- Assumes nothing.
+use mathlib.Core.Path.{_≡_, sym, _∙_}
+use mathlib.Core.Bool.{true, false}
 use borrow.Author.Needs.{needs}
-use native.Mathlib.Omega.{arith}
-use Rattle.insertion.specs.Entry.{entryOf}
+use Rattle.insertion.specs.EntryLaws.{entry-first, entry-second}
 use Rattle.insertion.specs.WordBits.{choiceIn}
-use Rattle.insertion.specs.WordBitsLaws.{choiceNumber-upto}
+use Rattle.insertion.specs.WordBitsLaws.{choiceNumber-one, choiceNumber-zero}
 use Rattle.insertion.proofs.place_taken.Statement.{statement}
 use Rattle.insertion.proofs.place_taken.Tie as tie
 
 choice-at-requires : tie.Need-choice-at-requires
 choice-at-requires c κs = search needs
 
-mul-result : tie.Need-mul-result
-mul-result c =
-    let a = c .before .before .args in
-    record { fits = omega (arith, choiceNumber-upto (choiceIn (a .word) (a .i))) }
-
 add-result : tie.Need-add-result
-add-result c =
-    let a = c .before .before .args in
-    record { fits = omega (arith, choiceNumber-upto (choiceIn (a .word) (a .i))) }
+add-result c = search needs
 
-cast-result : tie.Need-cast-result
-cast-result c = search needs
+mul-result : tie.Need-mul-result
+mul-result c = search needs
+
+shared-slice-read-result : tie.Need-shared-slice-read-result
+shared-slice-read-result c = search needs
 
 mul-result-2 : tie.Need-mul-result-2
 mul-result-2 c = search needs
 
-shared-slice-read-result : tie.Need-shared-slice-read-result
-shared-slice-read-result c =
-    let a = c .before .before .before .args in
-    omega (arith, choiceNumber-upto (choiceIn (a .word) (a .i)))
+shared-slice-read-result-2 : tie.Need-shared-slice-read-result-2
+shared-slice-read-result-2 c = search needs
 
 returns : tie.Need-returns
-unfolding entryOf
-returns c = rw (c .before .choice-at .ensures)
+returns c =
+    let chosen = c .before .before in
+    let a = chosen .before .before .args in
+    let second : choiceIn (a .word) (a .i) ≡ true =
+    choiceNumber-one (choiceIn (a .word) (a .i)) (sym (chosen .choice-at .ensures) ∙ c .before .if1 .taken) in
+    rw second (entry-second (a .places .now) (a .i))
+
+returns-2 : tie.Need-returns-2
+returns-2 c =
+    let chosen = c .before .before in
+    let a = chosen .before .before .args in
+    let first : choiceIn (a .word) (a .i) ≡ false =
+    choiceNumber-zero (choiceIn (a .word) (a .i)) (λ e. c .before .if1 .left (chosen .choice-at .ensures ∙ e)) in
+    rw first (entry-first (a .places .now) (a .i))
 
 pub place-taken-spec : {M : Type 1} → statement M
 place-taken-spec =
     tie.close
     (tie.spec
     choice-at-requires
-    mul-result
     add-result
-    cast-result
-    mul-result-2
+    mul-result
     shared-slice-read-result
-    returns)
+    mul-result-2
+    shared-slice-read-result-2
+    returns
+    returns-2)
