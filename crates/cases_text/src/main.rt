@@ -106,6 +106,12 @@ fn written() {
     text::write_field(&mut buffer, 34, 2, 7);
     report::words(&buffer);
     report::words(b"\n");
+    // The longest tag of eight digits and the first of nine, and one with every digit.
+    text::write_tag_line(&mut buffer, 0, 99999999);
+    text::write_tag_line(&mut buffer, 11, 100000000);
+    text::write_tag_line(&mut buffer, 22, 1234567890);
+    report::words(&buffer);
+    report::words(b"\n");
 }
 
 fn main() {

@@ -249,11 +249,24 @@ pub fn write_pair_line(buffer: &mut [u8], at: usize, a: u32, b: u32)
     buffer[at + 10] = b'\n';
 }
 
+// Writes the figure of a tag in ten columns; the bytes before and after it stay. Most tags have nine digits or ten.
+fn write_tag(buffer: &mut [u8], at: usize, t: u32)
+    requires { ⌜ at + 10 ≤ length (now buffer) ⌝ }
+    ensures bytes { λ _. ⌜ now (buffer .exit) ≡ take at (now (buffer .entry)) ++ figure 10 t ++ drop (at + 10) (now (buffer .entry)) ⌝ }
+{
+    if t < 100000000 {
+        write_field(buffer, at, 10, t as u64);
+        return;
+    }
+    write_field(buffer, at, 2, (t / 100000000) as u64);
+    digits::write_eight_digits(buffer, at + 2, t % 100000000);
+}
+
 // Writes a line of one tag; the bytes before and after it stay.
 pub fn write_tag_line(buffer: &mut [u8], at: usize, t: u32)
     requires { ⌜ at + lineLength ≤ length (now buffer) ⌝ }
     ensures bytes { λ _. ⌜ now (buffer .exit) ≡ take at (now (buffer .entry)) ++ tagLine t ++ drop (at + lineLength) (now (buffer .entry)) ⌝ }
 {
-    write_field(buffer, at, 10, t as u64);
+    write_tag(buffer, at, t);
     buffer[at + 10] = b'\n';
 }

@@ -139,4 +139,9 @@ fn written(output: &mut Output) {
     let fields = put(34, &figure(7, 2));
     output.words(fields);
     output.words("\n");
+    put(0, &line_of_tag(99_999_999));
+    put(11, &line_of_tag(100_000_000));
+    let lines = put(22, &line_of_tag(1_234_567_890));
+    output.words(lines);
+    output.words("\n");
 }

@@ -1,0 +1,13 @@
+-- Digits as characters, and bytes packed into a word. Assumes nothing.
+use Prim.Native.Nat.{ℕ, zero, suc, _+_, _*_, _/_, _%_}
+use mathlib.Core.List.{List, [], _∷_, _++_}
+
+-- The last so many digits of n as characters, with zeros in front: 7 in three digits is "007".
+unfoldable pub digits : ℕ → ℕ → List ℕ
+digits zero n = []
+digits (suc width) n = digits width (n / 10) ++ ((48 + n % 10) ∷ [])
+
+-- Bytes packed into one word, the first in its lowest eight bits.
+unfoldable pub packed : List ℕ → ℕ
+packed [] = 0
+packed (byte ∷ bytes) = byte + 256 * packed bytes

@@ -1,0 +1,91 @@
+-- The digits of a number, pair by pair, and the bytes of a packed word. Assumes nothing.
+use mathlib.Core.Path.{_≡_, refl}
+use mathlib.Core.List.{List, [], _∷_, _++_}
+use Prim.Native.Nat.{ℕ, zero, suc, _+_, _*_, _/_, _%_, _<_}
+use native.Mathlib.Omega.{arith}
+use native.Mathlib.Nat.{div-div-eq-div-mul}
+use lib.ListN.{length, length-append}
+use lib.Seq.{append-snoc}
+use Rattle.digits.specs.Digits.{digits, packed}
+
+-- As many as asked for, whatever the number.
+digits-length : (w n : ℕ) → length (digits w n) ≡ w
+unfolding digits
+digits-length zero n = refl
+digits-length (suc w) n = simp (length-append, digits-length w (n / 10)) (omega arith)
+
+-- A pair of digits.
+abbrev pub pair : ℕ → List ℕ
+pair p = (48 + p / 10) ∷ (48 + p % 10) ∷ []
+
+-- A pair of digits behind those of m.
+digits-pair : (w m p : ℕ) → p < 100 → digits (suc (suc w)) (m * 100 + p) ≡ digits w m ++ pair p
+unfolding digits
+digits-pair w m p h =
+    let q : (m * 100 + p) / 10 / 10 ≡ m = omega arith in
+    let t : (m * 100 + p) / 10 % 10 ≡ p / 10 = omega arith in
+    let u : (m * 100 + p) % 10 ≡ p % 10 = omega arith in
+    rw (q, t, u, append-snoc)
+
+-- Two digits are a pair, and eight are four pairs.
+two-digits : (p : ℕ) → p < 100 → digits 2 p ≡ pair p
+unfolding digits
+two-digits p h = let t : p / 10 % 10 ≡ p / 10 = omega arith in rw t
+
+pub eight-digits : (a b c d : ℕ) → a < 100 → b < 100 → c < 100 → d < 100
+    → digits 8 (((a * 100 + b) * 100 + c) * 100 + d) ≡ pair a ++ pair b ++ pair c ++ pair d
+eight-digits a b c d h i j k =
+    rw (digits-pair 6 ((a * 100 + b) * 100 + c) d k, digits-pair 4 (a * 100 + b) c j, digits-pair 2 a b i, two-digits a h)
+
+-- Every element is a byte.
+unfoldable Bytes : List ℕ → Type 0
+Bytes [] = Unit
+Bytes (byte ∷ bytes) = (byte < 256) × Bytes bytes
+
+bytes-more : (xs : List ℕ) (b : ℕ) → Bytes xs → b < 256 → Bytes (xs ++ (b ∷ []))
+unfolding Bytes
+bytes-more [] b h j = (j, tt)
+bytes-more (x ∷ xs) b h j = (h .0, bytes-more xs b (h .1) j)
+
+digits-bytes : (w n : ℕ) → Bytes (digits w n)
+unfolding Bytes digits
+digits-bytes zero n = tt
+digits-bytes (suc w) n = bytes-more (digits w (n / 10)) (48 + n % 10) (digits-bytes w (n / 10)) (omega arith)
+
+-- So many bytes of a word, the lowest first.
+unfoldable unpacked : ℕ → ℕ → List ℕ
+unpacked zero word = []
+unpacked (suc k) word = word % 256 ∷ unpacked k (word / 256)
+
+unpacked-packed : (bytes : List ℕ) → Bytes bytes → unpacked (length bytes) (packed bytes) ≡ bytes
+unfolding Bytes unpacked packed
+unpacked-packed [] h = refl
+unpacked-packed (byte ∷ bytes) h =
+    let low : (byte + 256 * packed bytes) % 256 ≡ byte = omega (arith, h .0) in
+    let high : (byte + 256 * packed bytes) / 256 ≡ packed bytes = omega (arith, h .0) in
+    rw (low, high, unpacked-packed bytes (h .1))
+
+-- The eight bytes of the word, as they are taken from it.
+pub word-bytes : (n word : ℕ) → word ≡ packed (digits 8 n)
+    → word % 256
+    ∷ word / 256 % 256
+    ∷ word / 65536 % 256
+    ∷ word / 16777216 % 256
+    ∷ word / 4294967296 % 256
+    ∷ word / 1099511627776 % 256
+    ∷ word / 281474976710656 % 256
+    ∷ word / 72057594037927936 % 256
+    ∷ []
+    ≡ digits 8 n
+unfolding unpacked
+word-bytes n word e =
+    let bytes : unpacked 8 word ≡ digits 8 n = rw (digits-length 8 n, ← e) at (unpacked-packed (digits 8 n) (digits-bytes 8 n)) in
+    rw (
+      div-div-eq-div-mul word 256 256,
+      div-div-eq-div-mul word 65536 256,
+      div-div-eq-div-mul word 16777216 256,
+      div-div-eq-div-mul word 4294967296 256,
+      div-div-eq-div-mul word 1099511627776 256,
+      div-div-eq-div-mul word 281474976710656 256,
+    ) at
+    bytes

@@ -1,0 +1,39 @@
+// Eight digits at once: a tag's last eight.
+ghost use mathlib.Core.Path.{_≡_};
+ghost use mathlib.Core.List.{_++_};
+ghost use Prim.Native.Nat.{_+_, _≤_, _<_};
+ghost use lib.ListN.{length, take, drop};
+ghost use Rattle.digits.specs.Digits.{digits, packed};
+
+// The eight digits of n as characters, packed into one word: the first in the lowest byte.
+fn eight_digits(n: u32) -> u64
+    requires { ⌜ n < 100000000 ⌝ }
+    ensures answer { λ r. ⌜ r ≡ packed (digits 8 n) ⌝ }
+{
+    // Four pairs of digits, 16 bits each, the first pair lowest.
+    let pairs = (n / 1000000) as u64
+        + (n / 10000 % 100) as u64 * 65536
+        + (n / 100 % 100) as u64 * 4294967296
+        + (n % 100) as u64 * 281474976710656;
+    // The tens of each pair: p * 103 / 1024 is p / 10 for p below 100. The mask clears what came down from the pair above.
+    let tens = (pairs * 103 / 1024) & 0x000f000f000f000f;
+    // The tens, the ones a byte higher, and '0' added to each: tens + (pairs - 10 * tens) * 256, written so that the compiler
+    // makes one store of the eight.
+    pairs * 256 + 0x3030303030303030 - tens * 2559
+}
+
+// Writes the eight digits of n, with zeros in front; the bytes before and after them stay.
+pub fn write_eight_digits(buffer: &mut [u8], at: usize, n: u32)
+    requires { ⌜ (at + 8 ≤ length (now buffer)) × (n < 100000000) ⌝ }
+    ensures bytes { λ _. ⌜ now (buffer .exit) ≡ take at (now (buffer .entry)) ++ digits 8 n ++ drop (at + 8) (now (buffer .entry)) ⌝ }
+{
+    let word = eight_digits(n);
+    buffer[at] = (word % 256) as u8;
+    buffer[at + 1] = (word / 256 % 256) as u8;
+    buffer[at + 2] = (word / 65536 % 256) as u8;
+    buffer[at + 3] = (word / 16777216 % 256) as u8;
+    buffer[at + 4] = (word / 4294967296 % 256) as u8;
+    buffer[at + 5] = (word / 1099511627776 % 256) as u8;
+    buffer[at + 6] = (word / 281474976710656 % 256) as u8;
+    buffer[at + 7] = (word / 72057594037927936 % 256) as u8;
+}
