@@ -144,7 +144,6 @@ record Invariant (keys : List Key) (s : State) : Type 0 where
   last : s .seated ≡ length keys → s .moving ≡ length keys
   room : EachCandidate (λ x. x < length (s .occupants)) keys
   cells : length keys ≤ length (s .choices)
-  allowed : s .left ≤ allowance (s .seated)
   -- the potential against any sequence is no more than the evictions that are left
   enough : (cs : List Bool) → FirstApart keys (suc (s .seated)) cs → potential keys cs s ≤ s .left
 
@@ -182,7 +181,6 @@ invariant-start keys places cells below fits = record {
   last = λ e. e;
   room = λ i lt choice. omega (arith, below i lt choice, length-replicate {A = ℕ} places 0);
   cells = omega (arith, length-replicate {A = ℕ} cells 0);
-  allowed = omega arith;
   enough = λ cs apart. potential-enter keys cs (start places cells) refl;
 }
 
@@ -251,7 +249,6 @@ module _ {keys : List Key} {s : State} (inv : Invariant keys s) (more : s .seate
     last = λ e. e;
     room = λ i lt c. simp length-set (inv .room i lt c);
     cells = simp length-set (inv .cells);
-    allowed = omega arith;
     enough = λ cs apart. potential-enter keys cs (seatKey keys choice s) refl;
   }
     where
@@ -333,7 +330,6 @@ module _ {keys : List Key} {s : State} (inv : Invariant keys s) (more : s .seate
     last = λ e. absurd (omega arith);
     room = λ i lt choice. simp length-set (inv .room i lt choice);
     cells = simp length-set (inv .cells);
-    allowed = omega (arith, inv .allowed);
     enough = λ cs apart. omega (arith, evict-lowers cs apart, inv .enough cs apart);
   }
     where
@@ -368,9 +364,6 @@ module _ {keys : List Key} {s : State} (r : Reached keys s) where
   pub reached-among : s .moving ≤ s .seated
   reached-among = reached-invariant r .among
 
-  pub reached-seated : s .seated ≤ length keys
-  reached-seated = reached-invariant r .upto
-
   pub reached-who : (v i : ℕ) → getD (s .occupants) v 0 ≡ i + 1 → Has keys s i v
   reached-who v i e = reached-invariant r .who v i e
 
@@ -379,17 +372,6 @@ module _ {keys : List Key} {s : State} (r : Reached keys s) where
 
   pub reached-goal : s .seated < length keys → goal keys s < length (s .occupants)
   reached-goal more = goal-inside (reached-invariant r) more
-
-  pub reached-left : s .left ≤ allowance (s .seated)
-  reached-left = reached-invariant r .allowed
-
-  pub reached-occupant : s .seated < length keys → occupant keys s ≤ length keys
-  unfolding occupant
-  reached-occupant more = go (equal-or-not (occupant keys s) 0)
-    where
-      go : (occupant keys s ≡ 0) ⊎ (occupant keys s ≢ 0) → occupant keys s ≤ length keys
-      go (inl free) = omega arith
-      go (inr full) = omega (arith, evicted-has (reached-invariant r) more full .upto)
 
 -- COMPLETENESS: where the bounded chain gives up, no choice sequence takes the keys so far to different places,
 pub gives-up-apart : {keys : List Key} {s : State} → GivesUp keys s → (cs : List Bool) → FirstApart keys (suc (s .seated)) cs → ⊥

@@ -1,43 +1,18 @@
 -- The early drop: keys that something fills touch at least as many places as they are, however many places there are; and no more
 -- than there are. So a seed under which n tags touch another number than n of their n places can be dropped, and none that
 -- something fills is. Assumes nothing.
-use Prim.Native.Nat.{ℕ, zero, suc, _+_, _*_, _≤_, _<_}
+use Prim.Native.Nat.{ℕ, zero, suc, _≤_, _<_}
 use mathlib.Core.Path.{_≡_, refl, sym}
 use mathlib.Core.Logic.{_⊎_, inl, inr, ⊎-elim}
 use mathlib.Core.Bool.{Bool, true, false, cond, not-eq-not, true≢false}
-use mathlib.Core.List.{List, [], _∷_, _++_}
+use mathlib.Core.List.{List, [], _∷_}
 use native.Mathlib.Omega.{arith}
-use lib.Dec.{eqb}
 use lib.ListN.{length, getD}
 use Rattle.filling.specs.Places.{occurs, distinct}
 use Rattle.filling.specs.PlacesLaws.{occurs-here, occurs-there, occurs-cases, occurs-not, distinct-cons, pigeonhole, numbersBelow, numbersBelow-length, numbersBelow-occurs}
 use Rattle.filling.specs.Filling.{Key, placeBy, Fills}
 use Rattle.filling.specs.FillingLaws.{EachCandidate, fills-touches}
 use Rattle.filling.specs.Touched.{candidatePlaces, once, touched}
-
--- Two places for each key.
-pub candidatePlaces-length : (keys : List Key) → length (candidatePlaces keys) ≡ 2 * length keys
-unfolding candidatePlaces
-candidatePlaces-length [] = refl
-candidatePlaces-length (key ∷ keys) = omega (arith, candidatePlaces-length keys)
-
--- The places of further keys come after those of the first.
-pub candidatePlaces-append : (keys more : List Key) → candidatePlaces (keys ++ more) ≡ candidatePlaces keys ++ candidatePlaces more
-unfolding candidatePlaces
-candidatePlaces-append [] more = refl
-candidatePlaces-append (key ∷ keys) more = rw (candidatePlaces-append keys more)
-
--- Number 2i + c of the places is where choice c takes the key with index i.
-pub candidatePlaces-at : (keys : List Key) (i c : ℕ) → i < length keys → c < 2
-    → getD (candidatePlaces keys) (2 * i + c) 0 ≡ placeBy (eqb c 1) (getD keys i (0, 0))
-unfolding candidatePlaces
-candidatePlaces-at [] i c lt two = absurd (omega arith)
-candidatePlaces-at (key ∷ keys) zero zero lt two = refl
-candidatePlaces-at (key ∷ keys) zero (suc zero) lt two = refl
-candidatePlaces-at (key ∷ keys) zero (suc (suc c)) lt two = absurd (omega arith)
-candidatePlaces-at (key ∷ keys) (suc i) c lt two =
-    let e : 2 * suc i + c ≡ suc (suc (2 * i + c)) = omega arith in
-    rw e (candidatePlaces-at keys i c (omega arith) two)
 
 -- Each candidate place is among them.
 pub candidatePlaces-occurs : (keys : List Key) → EachCandidate (λ x. occurs x (candidatePlaces keys) ≡ true) keys

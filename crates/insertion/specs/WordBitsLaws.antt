@@ -33,12 +33,7 @@ pub choice-shifted : (w i : ℕ) → w / 2 ^ i % 2 ≡ choiceNumber (choiceIn w 
 unfolding choiceIn
 choice-shifted w i = bit-shifted w i ∙ number-choice (bitAt w i) (bit-below w i)
 
--- A choice's number is 0 or 1, and 1 exactly for choice 1.
-pub choiceNumber-upto : (c : Bool) → choiceNumber c ≤ 1
-unfolding choiceNumber
-choiceNumber-upto false = omega arith
-choiceNumber-upto true = omega arith
-
+-- A choice's number is 1 exactly for choice 1.
 pub choiceNumber-one : (c : Bool) → choiceNumber c ≡ 1 → c ≡ true
 unfolding choiceNumber
 choiceNumber-one false e = absurd (omega arith)

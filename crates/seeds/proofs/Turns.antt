@@ -11,19 +11,19 @@ use native.Mathlib.Numerals.{add-one}
 use native.Mathlib.Omega.{arith}
 use lib.Count.{ones}
 use lib.Dec.{eqb}
-use lib.ListN.{length, getD, set, replicate, length-set, length-replicate, getD-replicate}
+use lib.ListN.{length, getD, set, replicate, length-set, length-replicate}
 use lib.Seq.{getD-set-same, getD-set-other}
 use borrow.Author.Count.{below-more}
 use Rattle.refusal.specs.Limits.{groupMax}
 use Rattle.filling.specs.Filling.{Key, placeBy, Fills}
 use Rattle.filling.specs.Eviction.{State, placeUnder, goal, occupant, start, seatKey, evictKey, Reached, started, seats, evicts, sequenceOf}
-use Rattle.filling.specs.EvictionLaws.{Has, replicate-zero, reached-choice, reached-among, reached-seated, reached-left, reached-who, reached-cells, reached-goal, gives-up-none, seated-fills}
+use Rattle.filling.specs.EvictionLaws.{Has, replicate-zero, reached-choice, reached-among, reached-who, reached-cells, reached-goal, gives-up-none, seated-fills}
 use Rattle.group.specs.Group.{groupUnder, leastSeed}
 use Rattle.group.specs.GroupLaws.{NoneFills, group-size, group-below, leastSeed-only, leastSeed-out}
 use Rattle.candidates.specs.Array.{laidInto}
 use Rattle.candidates.specs.ArrayLaws.{group-cells, group-first, group-second}
 use Rattle.seeds.specs.Occupancy.{occupancyOf}
-use Rattle.seeds.specs.OccupancyLaws.{ones-none, ones-most}
+use Rattle.seeds.specs.OccupancyLaws.{ones-none}
 use Rattle.seeds.specs.Tried.{laidAfter}
 
 -- The seed loop: nothing fills under the seeds below `next`, and the lent cells are as those seeds left them.

@@ -17,7 +17,7 @@ use Rattle.filling.specs.Places.{occurs}
 use Rattle.filling.specs.Filling.{Key, placeBy, Fills}
 use Rattle.filling.specs.FillingLaws.{EachCandidate}
 use Rattle.filling.specs.Touched.{candidatePlaces, once, touched}
-use Rattle.filling.specs.TouchedLaws.{fills-touched, touched-below, untouched-none}
+use Rattle.filling.specs.TouchedLaws.{fills-touched, untouched-none}
 use Rattle.filling.specs.Word.{choiceNumber}
 use Rattle.candidates.specs.Array.{placesBy}
 use Rattle.seeds.specs.Occupancy.{occupancy, occupancyOf}
@@ -63,10 +63,6 @@ fills-ones keys cs f = omega (arith, ones-touched keys, fills-touched keys cs f)
 pub ones-none : (n : ℕ) (keys : List Key) → length keys ≡ n → EachCandidate (λ x. x < n) keys → (ones (occupancyOf keys) ≡ n → ⊥)
     → (cs : List Bool) → Fills keys cs → ⊥
 ones-none n keys size below other = untouched-none n keys size below (λ e. other (ones-touched keys ∙ e))
-
--- There are no more ones than places.
-pub ones-most : (n : ℕ) (keys : List Key) → EachCandidate (λ x. x < n) keys → ones (occupancyOf keys) ≤ n
-ones-most n keys below = omega (arith, ones-touched keys, touched-below n keys below)
 
 -- The bit of one place more is set.
 pub occupancy-more : (places : List ℕ) (p : ℕ) → occupancy (places ++ (p ∷ [])) ≡ setBit (occupancy places) p

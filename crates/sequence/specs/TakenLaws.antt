@@ -10,7 +10,7 @@ use Rattle.filling.specs.Word.{wordOf}
 use Rattle.filling.specs.Least.{least}
 use Rattle.filling.specs.LeastLaws.{least-fills, least-least, least-none}
 use Rattle.group.specs.Group.{groupUnder, taken}
-use Rattle.group.specs.GroupLaws.{NoneFills, taken-unique}
+use Rattle.group.specs.GroupLaws.{taken-unique}
 use Rattle.sequence.specs.Answer.{choicesMeaning}
 use Rattle.sequence.specs.declared.Choices.{Choices}
 use Rattle.sequence.specs.declared.Choices.the-variants.{Word, Nothing}
@@ -19,10 +19,6 @@ use Rattle.sequence.specs.declared.Choices.the-variants.{Word, Nothing}
 answer-word : (r : Choices) {word : ℕ} → choicesMeaning r ≡ some word → r ≡ Word word
 answer-word (Word word) e = cc
 answer-word Nothing e = cc
-
-answer-nothing : (r : Choices) → choicesMeaning r ≡ none → r ≡ Nothing
-answer-nothing (Word word) e = cc
-answer-nothing Nothing e = refl
 
 module _ (tags : List ℕ) (seed : ℕ) where
   -- The least sequence is the one taken.
@@ -38,11 +34,3 @@ module _ (tags : List ℕ) (seed : ℕ) where
         go : (o : Option (List Bool)) → least (groupUnder tags seed) ≡ o → r ≡ Word (wordOf (taken tags seed))
         go none e = absurd (least-none (groupUnder tags seed) e cs f)
         go (some ds) e = answer-word r (answer ∙ rw (e, least-taken e))
-
-    -- Where nothing does, the answer is nothing.
-    pub nothing-taken : NoneFills tags seed → r ≡ Nothing
-    nothing-taken nothing = go (least (groupUnder tags seed)) refl
-      where
-        go : (o : Option (List Bool)) → least (groupUnder tags seed) ≡ o → r ≡ Nothing
-        go none e = answer-nothing r (answer ∙ rw e)
-        go (some ds) e = absurd (nothing ds (least-fills (groupUnder tags seed) e))

@@ -3,7 +3,6 @@
 use borrow.Author.Needs.{needs}
 use mathlib.Core.Path.{_≡_, refl, sym, _∙_, ap}
 use mathlib.Core.Option.{none, some}
-use native.Mathlib.Omega.{arith}
 use Rattle.refusal.specs.LimitsLaws.{inside}
 use Rattle.filling.specs.Word.{wordOf}
 use Rattle.group.specs.Group.{taken}

@@ -1,14 +1,12 @@
 -- `seeds::lay_out` meets its contract: a turn sets the bits of one tag more, those of its first place in one word and of its second in
 -- the other. Assumes nothing.
-use Prim.Native.Nat.{ℕ, _+_, _-_, _≤_, _<_}
-use mathlib.Core.Path.{_≡_, refl, sym, _∙_}
+use Prim.Native.Nat.{_-_, _≤_, _<_}
+use mathlib.Core.Path.{_≡_, sym}
 use mathlib.Core.Bool.{true, false}
 use native.Mathlib.Omega.{arith}
-use lib.ListN.{length, getD, take}
+use lib.ListN.{length, take}
 use lib.Seq.{take-all}
 use borrow.Author.Needs.{needs}
-use Rattle.refusal.specs.Limits.{groupMax}
-use Rattle.filling.specs.Filling.{placeBy}
 use Rattle.group.specs.Group.{groupUnder}
 use Rattle.group.specs.GroupLaws.{group-size, group-below}
 use Rattle.candidates.specs.Array.{placesBy}

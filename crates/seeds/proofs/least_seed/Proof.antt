@@ -2,7 +2,7 @@
 -- the first seed that something fills and no seed before it is one. The measure's 128 is more than the evictions that an insertion may
 -- make, 2 * groupMax + 1. Assumes nothing.
 use Prim.Native.Nat.{_+_, _*_, _-_}
-use mathlib.Core.Path.{_≡_, refl, sym, _∙_}
+use mathlib.Core.Path.{_≡_, sym, _∙_}
 use mathlib.Core.Logic.{⊎-elim}
 use native.Mathlib.Omega.{arith}
 use lib.ListN.{length}
