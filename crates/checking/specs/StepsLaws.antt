@@ -1,25 +1,30 @@
 -- Each step of checking, by what the lines read as and by what the earlier steps have passed. Assumes nothing.
 use mathlib.Core.Path.{_≡_, refl, _∙_, ap}
+use mathlib.Core.Logic.{_⊎_, inl, inr}
 use mathlib.Core.Bool.{false, not}
 use mathlib.Core.List.{List}
 use mathlib.Core.Option.{Option, none, some, Option·getD}
-use Prim.Native.Nat.{ℕ, zero, suc, _+_, _≤_, _<_}
+use Prim.Native.Nat.{ℕ, zero, suc, _+_, _-_, _≤_, _<_}
 use native.Mathlib.Omega.{arith}
+use native.Mathlib.Nat.{eq-or-lt-of-le}
+use lib.ListN.{length, getD, set, length-set}
+use lib.Seq.{getD-set-same, getD-set-other}
 use borrow.Author.Tests.{lt-ltb, le-ltb}
+use Rattle.refusal.specs.Limits.{tagsMax}
 use Rattle.refusal.specs.Outcome.{answered, refused}
 use Rattle.refusal.specs.First.{first, isSome}
 use Rattle.refusal.specs.FirstLaws.{first-none, first-out}
 use Rattle.refusal.specs.Checks.{inOrder}
 use Rattle.refusal.specs.ChecksLaws.{inOrder-append}
 use Rattle.text.specs.Line.{lineAt, groupLine, slotLine}
-use Rattle.image.specs.View.{View, viewOf, groupsIn, startIn, endIn, faulty}
+use Rattle.image.specs.View.{View, viewOf, groupsIn, startIn, endIn, slotLineIn, slotIn, faulty}
 use Rattle.image.specs.Checking.{openingChecks, malformedIn, misplaced, repeated, checkingChecks, checkingOf}
 use Rattle.image.specs.FaultLaws.{fair-of-faulty}
 use Rattle.opening.specs.Opening.{openingOf}
 use Rattle.opening.specs.OpeningLaws.{opening-refused, opening-passes, Opens, opening-answered}
 use Rattle.slots.specs.declared.Group.{Group}
-use Rattle.slots.specs.Group.{GroupIs, Regular, AllPlaced}
-use Rattle.checking.specs.Steps.{faultyIn}
+use Rattle.slots.specs.Group.{GroupIs, Regular, SlotsRead, AllPlaced}
+use Rattle.checking.specs.Steps.{faultyIn, slotsPassed, Stored}
 
 -- The lines of an image that opens.
 module _ (image : List ℕ) {count groups : ℕ} (opens : Opens image count groups) where
@@ -54,7 +59,41 @@ module _ (image : List ℕ) {count groups : ℕ} (opens : Opens image count grou
       let past : groupsIn (viewOf image) ≤ k = omega (arith, opens .groups-is) in
       rw (le-ltb k (groupsIn (viewOf image)) past, e)
 
+  -- The tag that line k states is that of the slot which the line is for.
+  slot-states : (k : ℕ) → 1 + groups ≤ k → {t : ℕ} → slotLine (lineAt k image) ≡ some t → slotIn (viewOf image) (k - 1 - groups) ≡ t
+  unfolding slotIn slotLineIn viewOf
+  slot-states k from e =
+      let own : slotLineIn (viewOf image) (k - 1 - groups) ≡ k = omega (arith, opens .groups-is) in
+      rw (own, e)
+
+  -- One tag more is stored.
+  module _ (k t : ℕ) (from : 1 + groups ≤ k) (reads : slotLine (lineAt k image) ≡ some t) (before after : List ℕ)
+      (cell : k - 1 - groups < length before) where
+    abbrev i : ℕ
+    i = k - 1 - groups
+
+    pub stored-turn : Stored (viewOf image) (k - (1 + groups)) before after
+        → Stored (viewOf image) (k + 1 - (1 + groups)) before (set after (k - 1 - groups) t)
+    stored-turn stored = record {
+      long = length-set after i t ∙ stored .long;
+      holds = λ j below. go j (eq-or-lt-of-le (omega arith));
+      kept = λ j past. getD-set-other after i j t 0 (λ same. omega arith) ∙ stored .kept j (omega arith);
+    }
+      where
+        go : (j : ℕ) → (j ≡ i) ⊎ (j < i) → getD (set after i t) j 0 ≡ slotIn (viewOf image) j
+        go j (inl same) = rw (same, getD-set-same after i t 0 (omega (arith, stored .long)), slot-states k from reads)
+        go j (inr lower) = getD-set-other after i j t 0 (λ same. omega arith) ∙ stored .holds j (omega arith)
+
   -- What the slots' passes ask for.
+  pub read-of : {found : Option ℕ} {before after : List ℕ} → Stored (viewOf image) (slotsPassed found groups count) before after
+      → length before ≡ tagsMax → found ≡ none → SlotsRead (viewOf image) after
+  read-of {found} {before} {after} stored long e =
+      let all : slotsPassed found groups count ≡ count = rw e (omega arith) in
+      record {
+        enough = omega (arith, opens .count-is, opens .count-legal, stored .long);
+        holds = λ j below. stored .holds j (omega (arith, opens .count-is, all));
+      }
+
   pub regular-of : first (faultyIn (viewOf image)) groups ≡ none → Regular image count groups
   regular-of e = record {
     opens = opens;
@@ -64,6 +103,10 @@ module _ (image : List ℕ) {count groups : ℕ} (opens : Opens image count grou
 
   pub placed-of : first (misplaced (viewOf image)) count ≡ none → AllPlaced (viewOf image)
   placed-of e = λ j lt. first-none (misplaced (viewOf image)) count e j (omega (arith, opens .count-is))
+
+-- Before the first slot line nothing is stored.
+pub stored-none : (v : View) (passed : ℕ) (before : List ℕ) → passed ≡ 0 → Stored v passed before before
+stored-none v passed before empty = record { long = refl; holds = λ j below. absurd (omega arith); kept = λ j past. refl }
 
 -- A group that was read is faulty where the image's is.
 pub fault-tested : (v : View) (g : ℕ) (group : Group) → GroupIs v g group → faultyIn v g ≡ faulty g (group .start) (group .end)

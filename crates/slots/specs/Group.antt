@@ -4,6 +4,7 @@ use mathlib.Core.Bool.{Bool, false, _&&_}
 use mathlib.Core.List.{List}
 use Prim.Native.Nat.{ℕ, _≤_, _<_}
 use lib.Dec.{eqb, ltb}
+use lib.ListN.{length, getD}
 use Rattle.refusal.specs.Limits.{groupsMax, seedMax, tagsMax}
 use Rattle.image.specs.View.{View, viewOf, countIn, groupsIn, startIn, seedIn, endIn, slotIn}
 use Rattle.image.specs.Checking.{misplaced}
@@ -40,6 +41,11 @@ pub record RegularGroup (v : View) (groups : ℕ) (group : Group) : Type 0 where
   pub end-is : group .end ≡ endIn v (group .number)
   pub seed-is : group .seed ≡ seedIn v (group .number)
   pub seed-legal : group .seed ≤ seedMax
+
+-- The cells hold the tags of the image's slots.
+pub record SlotsRead (v : View) (tags : List ℕ) : Type 0 where
+  pub enough : countIn v ≤ length tags
+  pub holds : (j : ℕ) → j < countIn v → getD tags j 0 ≡ slotIn v j
 
 -- No slot is misplaced.
 abbrev pub AllPlaced : View → Type 0

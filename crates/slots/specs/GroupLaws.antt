@@ -6,9 +6,9 @@ use Prim.Native.Nat.{ℕ, suc, _+_, _≤_, _<_}
 use native.Mathlib.Numerals.{add-one}
 use native.Mathlib.Omega.{arith}
 use Rattle.refusal.specs.Limits.{seedMax}
-use Rattle.text.specs.Line.{lineAt, groupLine, slotLine}
+use Rattle.text.specs.Line.{lineAt, groupLine}
 use Rattle.text.specs.LineLaws.{group-only}
-use Rattle.image.specs.View.{viewOf, groupsIn, startIn, seedIn, endIn, slotLineIn, slotIn}
+use Rattle.image.specs.View.{viewOf, startIn, seedIn, endIn}
 use Rattle.image.specs.FaultLaws.{end-next, end-last}
 use Rattle.opening.specs.OpeningLaws.{Opens}
 use Rattle.slots.specs.declared.Group.{Group}
@@ -32,16 +32,6 @@ module _ (image : List ℕ) (g : ℕ) where
       go : (o : Option (ℕ × ℕ)) → groupLine (lineAt (suc g) image) ≡ o → (Option·getD o (0, 0)) .1 ≤ seedMax
       go none e = omega arith
       go (some (start, seed)) e = (group-only start seed (lineAt (suc g) image) e) .2
-
--- The tag that a slot's line states.
-module _ (image : List ℕ) (groups j : ℕ) (same : groupsIn (viewOf image) ≡ groups) where
-  pub slot-states : {t : ℕ} → slotLine (lineAt (1 + groups + j) image) ≡ some t → slotIn (viewOf image) j ≡ t
-  unfolding slotIn slotLineIn viewOf
-  slot-states e = rw (same, e)
-
-  pub slot-malformed : slotLine (lineAt (1 + groups + j) image) ≡ none → slotIn (viewOf image) j ≡ 0
-  unfolding slotIn slotLineIn viewOf
-  slot-malformed e = rw (same, e)
 
 -- Where a group ends, in an image that opens.
 module _ (image : List ℕ) (count groups g : ℕ) (opens : Opens image count groups) where

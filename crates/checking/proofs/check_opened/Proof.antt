@@ -1,15 +1,17 @@
 -- `checking::check_opened` meets its contract: the first step that does not pass is the refusal, and what the steps before it passed is
 -- what it asks for. Assumes nothing.
 use borrow.Author.Needs.{needs}
-use mathlib.Core.Path.{sym, _∙_, ap}
+use mathlib.Core.Path.{refl, sym, _∙_, ap}
 use Rattle.opening.specs.OpeningLaws.{opening-answered}
 use Rattle.slots.specs.Answer.{lowestMeaning}
-use Rattle.checking.specs.StepsLaws.{regular-of, placed-of, check-line, check-group, check-misplaced, check-repeated, check-accepted}
+use Rattle.checking.specs.StepsLaws.{read-of, regular-of, placed-of, check-line, check-group, check-misplaced, check-repeated, check-accepted}
 use Rattle.checking.proofs.check_opened.Statement.{statement}
 use Rattle.checking.proofs.check_opened.Tie as tie
 
 malformed-line-requires : tie.Need-malformed-line-requires
-malformed-line-requires c κs = opening-answered (c .before .args .image .now) (c .before .pre)
+malformed-line-requires c κs =
+    let start = c .before .before in
+    (opening-answered (start .args .image .now) (start .pre), refl)
 
 enum-known-k : tie.Need-enum-known-k
 enum-known-k c = search needs
@@ -21,17 +23,17 @@ returns : tie.Need-returns
 returns c =
     let told = c .before .before in
     let searched = told .before .before in
-    let start = searched .before .before in
+    let start = searched .before .before .before in
     let image = start .args .image .now in
     c .refused .ensures
-    ∙ sym (check-line image (start .pre) (sym (searched .malformed-line .ensures) ∙ ap lowestMeaning (told .k .given .1)))
+    ∙ sym (check-line image (start .pre) (sym (searched .malformed-line .ensures .0) ∙ ap lowestMeaning (told .k .given .1)))
 
 enum-told : tie.Need-enum-told
 enum-told c = search needs
 
 faulty-group-requires : tie.Need-faulty-group-requires
 faulty-group-requires c κs =
-    let start = c .before .before .before .before in
+    let start = c .before .before .before .before .before in
     opening-answered (start .args .image .now) (start .pre)
 
 enum-known-g : tie.Need-enum-known-g
@@ -45,23 +47,30 @@ returns-2 c =
     let told = c .before .before in
     let searched = told .before .before in
     let linesPassed = searched .before in
-    let start = linesPassed .before .before .before .before in
+    let start = linesPassed .before .before .before .before .before in
     let image = start .args .image .now in
-    let lines = sym (linesPassed .before .before .malformed-line .ensures) ∙ ap lowestMeaning (linesPassed .enum-told .given .1) in
+    let lines = sym (linesPassed .before .before .malformed-line .ensures .0) ∙ ap lowestMeaning (linesPassed .enum-told .given .1) in
     c .refused2 .ensures
     ∙ sym (check-group image (start .pre) lines (sym (searched .faulty-group .ensures) ∙ ap lowestMeaning (told .g .given .1)))
 
 enum-told-2 : tie.Need-enum-told-2
 enum-told-2 c = search needs
 
+slice-aggregate-misplaced-slot : tie.Need-slice-aggregate-misplaced-slot
+slice-aggregate-misplaced-slot c =
+    let linesPassed = c .before .before .before .before in
+    sym (linesPassed .before .before .malformed-line .ensures .1 .long)
+
 misplaced-slot-requires : tie.Need-misplaced-slot-requires
 misplaced-slot-requires c κs =
-    let groupsPassed = c in
+    let groupsPassed = c .before in
     let linesPassed = groupsPassed .before .before .before in
-    let start = linesPassed .before .before .before .before in
+    let start = linesPassed .before .before .before .before .before in
     let image = start .args .image .now in
     let fair = sym (groupsPassed .before .before .faulty-group .ensures) ∙ ap lowestMeaning (groupsPassed .enum-told2 .given .1) in
-    regular-of image (opening-answered image (start .pre)) fair
+    let opens = opening-answered image (start .pre) in
+    let scanned = linesPassed .before .before in
+    (regular-of image opens fair, read-of image opens (scanned .malformed-line .ensures .1) refl (ap lowestMeaning (linesPassed .enum-told .given .1)))
 
 enum-known-j : tie.Need-enum-known-j
 enum-known-j c = search needs
@@ -73,11 +82,11 @@ returns-3 : tie.Need-returns-3
 returns-3 c =
     let told = c .before .before in
     let searched = told .before .before in
-    let groupsPassed = searched .before in
+    let groupsPassed = searched .before .before in
     let linesPassed = groupsPassed .before .before .before in
-    let start = linesPassed .before .before .before .before in
+    let start = linesPassed .before .before .before .before .before in
     let image = start .args .image .now in
-    let lines = sym (linesPassed .before .before .malformed-line .ensures) ∙ ap lowestMeaning (linesPassed .enum-told .given .1) in
+    let lines = sym (linesPassed .before .before .malformed-line .ensures .0) ∙ ap lowestMeaning (linesPassed .enum-told .given .1) in
     let fair = sym (groupsPassed .before .before .faulty-group .ensures) ∙ ap lowestMeaning (groupsPassed .enum-told2 .given .1) in
     c .refused3 .ensures
     ∙ sym (check-misplaced image (start .pre) lines fair (sym (searched .misplaced-slot .ensures) ∙ ap lowestMeaning (told .j .given .1)))
@@ -85,17 +94,28 @@ returns-3 c =
 enum-told-3 : tie.Need-enum-told-3
 enum-told-3 c = search needs
 
+slice-aggregate-repeated-slot : tie.Need-slice-aggregate-repeated-slot
+slice-aggregate-repeated-slot c =
+    let linesPassed = c .before .before .before .before .before .before .before .before in
+    sym (linesPassed .before .before .malformed-line .ensures .1 .long)
+
 repeated-slot-requires : tie.Need-repeated-slot-requires
 repeated-slot-requires c κs =
-    let placesPassed = c in
-    let groupsPassed = placesPassed .before .before .before in
+    let placesPassed = c .before in
+    let groupsPassed = placesPassed .before .before .before .before in
     let linesPassed = groupsPassed .before .before .before in
-    let start = linesPassed .before .before .before .before in
+    let start = linesPassed .before .before .before .before .before in
     let image = start .args .image .now in
     let fair = sym (groupsPassed .before .before .faulty-group .ensures) ∙ ap lowestMeaning (groupsPassed .enum-told2 .given .1) in
     let placed = sym (placesPassed .before .before .misplaced-slot .ensures) ∙ ap lowestMeaning (placesPassed .enum-told3 .given .1) in
     let opens = opening-answered image (start .pre) in
-    (regular-of image opens fair, placed-of image opens placed)
+    let scanned = linesPassed .before .before in (
+      regular-of image opens fair,
+      (
+        placed-of image opens placed,
+        read-of image opens (scanned .malformed-line .ensures .1) refl (ap lowestMeaning (linesPassed .enum-told .given .1)),
+      ),
+    )
 
 enum-known-j-2 : tie.Need-enum-known-j-2
 enum-known-j-2 c = search needs
@@ -107,12 +127,12 @@ returns-4 : tie.Need-returns-4
 returns-4 c =
     let told = c .before .before in
     let searched = told .before .before in
-    let placesPassed = searched .before in
-    let groupsPassed = placesPassed .before .before .before in
+    let placesPassed = searched .before .before in
+    let groupsPassed = placesPassed .before .before .before .before in
     let linesPassed = groupsPassed .before .before .before in
-    let start = linesPassed .before .before .before .before in
+    let start = linesPassed .before .before .before .before .before in
     let image = start .args .image .now in
-    let lines = sym (linesPassed .before .before .malformed-line .ensures) ∙ ap lowestMeaning (linesPassed .enum-told .given .1) in
+    let lines = sym (linesPassed .before .before .malformed-line .ensures .0) ∙ ap lowestMeaning (linesPassed .enum-told .given .1) in
     let fair = sym (groupsPassed .before .before .faulty-group .ensures) ∙ ap lowestMeaning (groupsPassed .enum-told2 .given .1) in
     let placed = sym (placesPassed .before .before .misplaced-slot .ensures) ∙ ap lowestMeaning (placesPassed .enum-told3 .given .1) in
     c .refused4 .ensures
@@ -124,12 +144,12 @@ enum-told-4 c = search needs
 returns-5 : tie.Need-returns-5
 returns-5 c =
     let repeatsPassed = c in
-    let placesPassed = repeatsPassed .before .before .before in
-    let groupsPassed = placesPassed .before .before .before in
+    let placesPassed = repeatsPassed .before .before .before .before in
+    let groupsPassed = placesPassed .before .before .before .before in
     let linesPassed = groupsPassed .before .before .before in
-    let start = linesPassed .before .before .before .before in
+    let start = linesPassed .before .before .before .before .before in
     let image = start .args .image .now in
-    let lines = sym (linesPassed .before .before .malformed-line .ensures) ∙ ap lowestMeaning (linesPassed .enum-told .given .1) in
+    let lines = sym (linesPassed .before .before .malformed-line .ensures .0) ∙ ap lowestMeaning (linesPassed .enum-told .given .1) in
     let fair = sym (groupsPassed .before .before .faulty-group .ensures) ∙ ap lowestMeaning (groupsPassed .enum-told2 .given .1) in
     let placed = sym (placesPassed .before .before .misplaced-slot .ensures) ∙ ap lowestMeaning (placesPassed .enum-told3 .given .1) in
     let once = sym (repeatsPassed .before .before .repeated-slot .ensures) ∙ ap lowestMeaning (repeatsPassed .enum-told4 .given .1) in
@@ -149,11 +169,13 @@ check-opened-spec =
     refused-requires-2
     returns-2
     enum-told-2
+    slice-aggregate-misplaced-slot
     misplaced-slot-requires
     enum-known-j
     refused-requires-3
     returns-3
     enum-told-3
+    slice-aggregate-repeated-slot
     repeated-slot-requires
     enum-known-j-2
     refused-requires-4

@@ -4,10 +4,11 @@ use borrow.Author.Needs.{needs}
 use mathlib.Core.Path.{sym, _∙_, ap}
 use Prim.Native.Nat.{_+_}
 use native.Mathlib.Omega.{arith}
-use Rattle.refusal.specs.FirstLaws.{first-more}
+use Rattle.refusal.specs.FirstLaws.{first-some, first-more}
 use Rattle.image.specs.View.{viewOf}
 use Rattle.image.specs.Checking.{malformedIn}
 use Rattle.slots.specs.Answer.{lowestMeaning}
+use Rattle.checking.specs.StepsLaws.{stored-none}
 use Rattle.checking.proofs.malformed_line.Statement.{statement}
 use Rattle.checking.proofs.malformed_line.Tie as tie
 
@@ -22,16 +23,21 @@ returns c =
     let told = c .before in
     let searched = told .before .before in
     let a = searched .before .before .args in
-    sym (first-more (malformedIn (viewOf (a .image .now))) (1 + a .groups) (1 + a .groups + a .count) (omega arith)
-    (sym (searched .malformed-group-line .ensures) ∙ ap lowestMeaning (told .k .given .1)))
+    let v = viewOf (a .image .now) in
+    let found = sym (searched .malformed-group-line .ensures) ∙ ap lowestMeaning (told .k .given .1) in (
+      sym (first-more (malformedIn v) (1 + a .groups) (1 + a .groups + a .count) (omega arith) found),
+      stored-none v _ (a .tags .now) (omega (arith, first-some (malformedIn v) (1 + a .groups) found .below)),
+    )
 
 enum-told : tie.Need-enum-told
 enum-told c = search needs
 
 malformed-slot-line-requires : tie.Need-malformed-slot-line-requires
 malformed-slot-line-requires c κs =
-    let searched = c .before .before in
-    (searched .before .before .pre, sym (searched .malformed-group-line .ensures) ∙ ap lowestMeaning (c .enum-told .given .1))
+    let told = c .before in
+    let searched = told .before .before in
+    let pre = searched .before .before .pre in
+    (pre .0, (sym (searched .malformed-group-line .ensures) ∙ ap lowestMeaning (told .enum-told .given .1), pre .1))
 
 returns-2 : tie.Need-returns-2
 returns-2 c = search needs

@@ -12,29 +12,32 @@ use Rattle.slots.proofs.misplaced_slot.Statement.{statement}
 use Rattle.slots.proofs.misplaced_slot.Tie as tie
 
 abbrev Inv-loop : tie.InvT-loop
-Inv-loop image count groups g₀ g = Walked (viewOf image) (misplaced (viewOf image)) groups g
+Inv-loop tags image count groups g₀ g = Walked (viewOf image) (misplaced (viewOf image)) groups g
 
 abbrev μ-loop : tie.MeasureT-loop
-μ-loop image count groups g₀ g = groups - g
+μ-loop tags image count groups g₀ g = groups - g
 
 loop-holds : tie.Need-loop-holds Inv-loop μ-loop
 loop-holds c =
-    let start = c .before in
+    let start = c .before .before in
     let a = start .args in
-    walk-start (a .image .now) (a .count) (a .groups) (start .pre) (misplaced (viewOf (a .image .now)))
+    walk-start (a .image .now) (a .count) (a .groups) (start .pre .0) (misplaced (viewOf (a .image .now)))
 
 group-at-requires : tie.Need-group-at-requires Inv-loop μ-loop
 group-at-requires c κs =
-    let start = c .before .before .before in
-    (start .pre .opens, c .loop-test .taken)
+    let start = c .before .before .before .before in
+    (start .pre .0 .opens, c .loop-test .taken)
 
 misplaced-in-requires : tie.Need-misplaced-in-requires Inv-loop μ-loop
 misplaced-in-requires c κs =
     let loop = c .before .before in
-    let start = loop .before .before in
+    let start = loop .before .before .before in
     let a = start .args in (
-      regular-group (a .image .now) (a .count) (a .groups) (loop .loop .g) (start .pre) (c .before .loop-test .taken) (c .group-at .result) (c .group-at .ensures),
-      walk-enters (a .image .now) (a .count) (a .groups) (start .pre) (misplaced (viewOf (a .image .now))) (loop .loop .g) (loop .loop .inv) (c .before .loop-test .taken) (c .group-at .result) (c .group-at .ensures),
+      regular-group (a .image .now) (a .count) (a .groups) (loop .loop .g) (start .pre .0) (c .before .loop-test .taken) (c .group-at .result) (c .group-at .ensures),
+      (
+        walk-enters (a .image .now) (a .count) (a .groups) (start .pre .0) (misplaced (viewOf (a .image .now))) (loop .loop .g) (loop .loop .inv) (c .before .loop-test .taken) (c .group-at .result) (c .group-at .ensures),
+        start .pre .1,
+      ),
     )
 
 enum-known-j : tie.Need-enum-known-j Inv-loop μ-loop
@@ -46,9 +49,9 @@ returns c =
     let searched = told .before .before in
     let read = searched .before in
     let loop = read .before .before in
-    let start = loop .before .before in
+    let start = loop .before .before .before in
     let a = start .args in
-    sym (walk-found (a .image .now) (a .count) (a .groups) (start .pre) (misplaced (viewOf (a .image .now))) (loop .loop .g) (loop .loop .inv) (read .before .loop-test .taken) (read .group-at .result) (read .group-at .ensures)
+    sym (walk-found (a .image .now) (a .count) (a .groups) (start .pre .0) (misplaced (viewOf (a .image .now))) (loop .loop .g) (loop .loop .inv) (read .before .loop-test .taken) (read .group-at .result) (read .group-at .ensures)
     (sym (searched .misplaced-in .ensures) ∙ ap lowestMeaning (told .j .given .1)))
 
 enum-told : tie.Need-enum-told Inv-loop μ-loop
@@ -65,17 +68,17 @@ loop-again c =
     let searched = c .before .before in
     let read = searched .before in
     let loop = read .before .before in
-    let start = loop .before .before in
+    let start = loop .before .before .before in
     let a = start .args in
-    walk-turn (a .image .now) (a .count) (a .groups) (start .pre) (misplaced (viewOf (a .image .now))) (loop .loop .g) (loop .loop .inv) (read .before .loop-test .taken) (read .group-at .result) (read .group-at .ensures)
+    walk-turn (a .image .now) (a .count) (a .groups) (start .pre .0) (misplaced (viewOf (a .image .now))) (loop .loop .g) (loop .loop .inv) (read .before .loop-test .taken) (read .group-at .result) (read .group-at .ensures)
     (sym (searched .misplaced-in .ensures) ∙ ap lowestMeaning (c .enum-told .given .1))
 
 returns-2 : tie.Need-returns-2 Inv-loop μ-loop
 returns-2 c =
     let loop = c .before in
-    let start = loop .before .before in
+    let start = loop .before .before .before in
     let a = start .args in
-    sym (walk-done (a .image .now) (a .count) (a .groups) (start .pre) (misplaced (viewOf (a .image .now))) (loop .loop .g) (loop .loop .inv) (c .loop-test .left))
+    sym (walk-done (a .image .now) (a .count) (a .groups) (start .pre .0) (misplaced (viewOf (a .image .now))) (loop .loop .g) (loop .loop .inv) (c .loop-test .left))
 
 pub misplaced-slot-spec : {M : Type 1} → statement M
 misplaced-slot-spec =

@@ -12,31 +12,34 @@ use Rattle.slots.proofs.repeated_slot.Statement.{statement}
 use Rattle.slots.proofs.repeated_slot.Tie as tie
 
 abbrev Inv-loop : tie.InvT-loop
-Inv-loop image count groups g₀ g = Walked (viewOf image) (repeated (viewOf image)) groups g
+Inv-loop tags image count groups g₀ g = Walked (viewOf image) (repeated (viewOf image)) groups g
 
 abbrev μ-loop : tie.MeasureT-loop
-μ-loop image count groups g₀ g = groups - g
+μ-loop tags image count groups g₀ g = groups - g
 
 loop-holds : tie.Need-loop-holds Inv-loop μ-loop
 loop-holds c =
-    let start = c .before in
+    let start = c .before .before in
     let a = start .args in
     walk-start (a .image .now) (a .count) (a .groups) (start .pre .0) (repeated (viewOf (a .image .now)))
 
 group-at-requires : tie.Need-group-at-requires Inv-loop μ-loop
 group-at-requires c κs =
-    let start = c .before .before .before in
+    let start = c .before .before .before .before in
     (start .pre .0 .opens, c .loop-test .taken)
 
 repeated-in-requires : tie.Need-repeated-in-requires Inv-loop μ-loop
 repeated-in-requires c κs =
     let loop = c .before .before in
-    let start = loop .before .before in
+    let start = loop .before .before .before in
     let a = start .args in (
       regular-group (a .image .now) (a .count) (a .groups) (loop .loop .g) (start .pre .0) (c .before .loop-test .taken) (c .group-at .result) (c .group-at .ensures),
       (
-        start .pre .1,
-        walk-enters (a .image .now) (a .count) (a .groups) (start .pre .0) (repeated (viewOf (a .image .now))) (loop .loop .g) (loop .loop .inv) (c .before .loop-test .taken) (c .group-at .result) (c .group-at .ensures),
+        start .pre .1 .0,
+        (
+          walk-enters (a .image .now) (a .count) (a .groups) (start .pre .0) (repeated (viewOf (a .image .now))) (loop .loop .g) (loop .loop .inv) (c .before .loop-test .taken) (c .group-at .result) (c .group-at .ensures),
+          start .pre .1 .1,
+        ),
       ),
     )
 
@@ -49,7 +52,7 @@ returns c =
     let searched = told .before .before in
     let read = searched .before in
     let loop = read .before .before in
-    let start = loop .before .before in
+    let start = loop .before .before .before in
     let a = start .args in
     sym (walk-found (a .image .now) (a .count) (a .groups) (start .pre .0) (repeated (viewOf (a .image .now))) (loop .loop .g) (loop .loop .inv) (read .before .loop-test .taken) (read .group-at .result) (read .group-at .ensures)
     (sym (searched .repeated-in .ensures) ∙ ap lowestMeaning (told .j .given .1)))
@@ -68,7 +71,7 @@ loop-again c =
     let searched = c .before .before in
     let read = searched .before in
     let loop = read .before .before in
-    let start = loop .before .before in
+    let start = loop .before .before .before in
     let a = start .args in
     walk-turn (a .image .now) (a .count) (a .groups) (start .pre .0) (repeated (viewOf (a .image .now))) (loop .loop .g) (loop .loop .inv) (read .before .loop-test .taken) (read .group-at .result) (read .group-at .ensures)
     (sym (searched .repeated-in .ensures) ∙ ap lowestMeaning (c .enum-told .given .1))
@@ -76,7 +79,7 @@ loop-again c =
 returns-2 : tie.Need-returns-2 Inv-loop μ-loop
 returns-2 c =
     let loop = c .before in
-    let start = loop .before .before in
+    let start = loop .before .before .before in
     let a = start .args in
     sym (walk-done (a .image .now) (a .count) (a .groups) (start .pre .0) (repeated (viewOf (a .image .now))) (loop .loop .g) (loop .loop .inv) (c .loop-test .left))
 
