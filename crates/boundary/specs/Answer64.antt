@@ -1,6 +1,8 @@
 -- What each call over the C boundary answers. Assumes nothing.
-use Prim.Native.Nat.{ℕ, _+_, _*_}
+use Prim.Native.Nat.{ℕ, _+_, _*_, _/_, _%_}
+use mathlib.Core.Bool.{cond}
 use mathlib.Core.List.{List}
+use lib.Dec.{ltb}
 use Rattle.refusal.specs.Limits.{tagEnd}
 use Rattle.refusal.specs.Outcome.{Outcome, answered, refused, answeredBy}
 use Rattle.image.specs.Checking.{checkingOf}
@@ -12,6 +14,10 @@ use Rattle.building.specs.FromText.{buildingFromText}
 unfoldable pub answer64 : Outcome ℕ → ℕ
 answer64 (answered n) = n
 answer64 (refused reason place) = reason * tagEnd + place
+
+-- How a caller takes an answer apart, as the header says: below 2^32 it is what the call says; from 2^32 on it is a refusal.
+unfoldable pub outcome64 : ℕ → Outcome ℕ
+outcome64 r = cond (ltb r tagEnd) (answered r) (refused (r / tagEnd) (r % tagEnd))
 
 unfoldable pub foundNumber : Found → ℕ
 foundNumber (number j) = j

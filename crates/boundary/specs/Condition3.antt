@@ -2,9 +2,9 @@
 use mathlib.Core.List.{List}
 use Prim.Native.Nat.{ℕ}
 use lib.ListN.{length}
-use Rattle.building.specs.FromText.{buildingFromText}
 use Rattle.from_text.specs.Promise.{TextCondition3}
+use Rattle.boundary.specs.Answer64.{outcome64}
 
--- Condition 3, for the list that a text states: of the outcome that the answer stands for, and of the bytes left in the image.
-abbrev pub BuildCondition3 : List ℕ → List ℕ → List ℕ → Type 0
-BuildCondition3 text before after = TextCondition3 text (length before) (buildingFromText text (length before)) after
+-- Condition 3, for the list that a text states: of the 64-bit number r that the call answers, and of the bytes left in the image.
+abbrev pub BuildCondition3 : List ℕ → List ℕ → ℕ → List ℕ → Type 0
+BuildCondition3 text before r after = TextCondition3 text (length before) (outcome64 r) after

@@ -1,4 +1,5 @@
 pub mod Answer64
 pub mod PlaceLaws
+pub mod Answer64Laws
 pub mod Condition2
 pub mod Condition3

@@ -16,7 +16,7 @@ use Rattle.hash.specs.FormulaLaws.{group-below, place-below}
 use Rattle.image.specs.View.{View, viewOf, countIn, groupsIn, startIn, endIn, seedIn, slotLineIn, slotIn, faulty, candidateIn}
 use Rattle.image.specs.Checking.{openingChecks, malformedIn, misplaced, repeated, checkingChecks, checkingOf}
 use Rattle.image.specs.FaultLaws.{fair-of-faulty}
-use Rattle.image.specs.Lookup.{Found, number, unknown, lookupChecks, atSlot, lookupInGroup, lookupOf}
+use Rattle.image.specs.Lookup.{Found, number, unknown, groupChecks, lookupChecks, atSlot, lookupInGroup, lookupOf}
 use Rattle.opening.specs.Opening.{openingOf}
 use Rattle.opening.specs.OpeningLaws.{Opens, opening-answered}
 use Rattle.refusal.specs.PlaceLaws.{PlaceBelow, below-checks, below-cond, metAt-below, met-below, first-below}
@@ -75,7 +75,7 @@ slot-place v t j next lt h =
 
 -- The place of a refusal of lookup.
 pub lookup-place : (image : List ℕ) (t : ℕ) → PlaceBelow imageLines (lookupOf image t)
-unfolding lookupOf lookupInGroup lookupChecks candidateIn slotLineIn
+unfolding lookupOf lookupInGroup lookupChecks groupChecks candidateIn slotLineIn
 lookup-place image t =
     rw (inOrder-append (openingChecks v) _ _)
     (opened-place image _ (λ opens.

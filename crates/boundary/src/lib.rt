@@ -19,7 +19,7 @@ ghost use Rattle.boundary.specs.Condition3.{BuildCondition3};
 pub extern "C" fn tag_index_build(text: &[u8], image: &mut [u8]) -> u64
     ensures answer { λ r. ⌜ r ≡ buildAnswer (now (text .entry)) (length (now (image .entry))) ⌝ }
     ensures bytes { λ _. ⌜ now (image .exit) ≡ bufferFromText (now (text .entry)) (now (image .entry)) ⌝ }
-    ensures condition3 { λ _. ⌜ BuildCondition3 (now (text .entry)) (now (image .entry)) (now (image .exit)) ⌝ }
+    ensures condition3 { λ r. ⌜ BuildCondition3 (now (text .entry)) (now (image .entry)) r (now (image .exit)) ⌝ }
 {
     match from_text::build_from_text(text, image) {
         BuildAnswer::Built(size) => size as u64,

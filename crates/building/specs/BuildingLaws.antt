@@ -4,20 +4,22 @@ use mathlib.Core.Bool.{true, false}
 use mathlib.Core.List.{List, _++_}
 use mathlib.Core.Option.{none, some}
 use Prim.Native.Nat.{ℕ, _≤_, _<_}
+use native.Mathlib.Omega.{arith}
 use lib.ListN.{length, drop}
-use borrow.Author.Tests.{lt-ltb, le-ltb, not-false}
+use borrow.Author.Tests.{lt-ltb, le-ltb, ltb-false, not-false}
 use Rattle.refusal.specs.Limits.{tagsMax, groupsMax, limitMax, outside}
+use Rattle.refusal.specs.LimitsLaws.{inside}
 use Rattle.refusal.specs.Outcome.{answered, refused}
 use Rattle.refusal.specs.First.{first, metAt, isSome}
 use Rattle.refusal.specs.FirstLaws.{first-none, some-of-isSome}
 use Rattle.refusal.specs.Checks.{met, inOrder}
-use Rattle.refusal.specs.ChecksLaws.{inOrder-answered}
+use Rattle.refusal.specs.ChecksLaws.{false-of-met, passed, inOrder-answered}
 use Rattle.group.specs.Group.{leastSeed}
 use Rattle.group.specs.GroupLaws.{LeastSeed, leastSeed-some}
 use Rattle.group.specs.Ascending.{limitCheck, ascendingCheck}
 use Rattle.group.specs.AscendingLaws.{ascending-of-check, ascending-distinct}
 use Rattle.image.specs.Sheet.{imageLength}
-use Rattle.image.specs.SheetLaws.{bytes-length}
+use Rattle.image.specs.SheetLaws.{bytes-length, image-longest}
 use Rattle.building.specs.Members.{members}
 use Rattle.building.specs.NumberLaws.{AllFill}
 use Rattle.building.specs.Building.{sheetOf, seedTaken, choicesTaken, imageOf, tooLarge, seedless, buildingChecks, buildingOf, written, bufferAfter}
@@ -115,3 +117,14 @@ unfolding buildingOf
 answered-size tags groups limit room e =
     let passed = inOrder-answered (buildingChecks tags groups limit room) (answered (imageLength groups (length tags))) e in
     cc (passed .1)
+
+-- It is that of an image of at most 4,096 tags in at most 512 groups.
+pub answered-most : (tags : List ℕ) (groups limit room : ℕ) {size : ℕ} → buildingOf tags groups limit room ≡ answered size
+    → size ≤ 50699
+unfolding buildingOf buildingChecks limitCheck ascendingCheck
+answered-most tags groups limit room e =
+    let checks = buildingChecks tags groups limit room in
+    let (passes, told) = inOrder-answered checks (answered (imageLength groups (length tags))) e in
+    let legal = inside 1 groupsMax groups (false-of-met _ (passed checks passes 8)) in
+    let few = ltb-false tagsMax (length tags) (false-of-met _ (passed checks passes 5)) in
+    omega (arith, image-longest groups (length tags) (legal .1) few, answered-size tags groups limit room e)

@@ -2,19 +2,25 @@
 -- and use none of the record's names but its own. Assumes nothing.
 use mathlib.Core.Path.{_≡_, refl, sym, _∙_}
 use mathlib.Core.Logic.{_↔_}
-use mathlib.Core.Bool.{Bool, true, false}
+use mathlib.Core.Bool.{Bool, true, false, not}
 use mathlib.Core.List.{List}
+use mathlib.Core.Option.{Option, none, some}
 use Prim.Native.Nat.{ℕ, suc, _+_, _*_, _≤_, _<_}
 use native.Mathlib.Omega.{arith}
+use lib.Dec.{ltb}
 use lib.ListN.{length, getD, take}
+use borrow.Author.Tests.{ltb-true, ltb-false, not-true, not-false}
 use Rattle.refusal.specs.Limits.{tagEnd}
 use Rattle.refusal.specs.Outcome.{Outcome, answered, refused}
+use Rattle.refusal.specs.First.{first, isSome}
+use Rattle.refusal.specs.FirstLaws.{first-some, first-none, some-of-isSome, none-of-isSome}
 use Rattle.text.specs.Line.{lineAt, pairLine}
 use Rattle.hash.specs.Formula.{groupOf}
 use Rattle.filling.specs.Places.{occurs}
 use Rattle.filling.specs.Filling.{Fills}
 use Rattle.filling.specs.Least.{NotAfter}
-use Rattle.group.specs.Group.{groupUnder}
+use Rattle.group.specs.Group.{groupUnder, leastSeed}
+use Rattle.group.specs.GroupLaws.{leastSeed-some, leastSeed-none}
 use Rattle.image.specs.Lookup.{number, unknown, lookupOf}
 use Rattle.building.specs.Members.{members, startOf}
 use Rattle.building.specs.Number.{placeIn, numberOf}
@@ -134,8 +140,7 @@ module _ {tags : List ℕ} {groups limit room : ℕ} {answer : Outcome ℕ} {aft
       groups-small = small;
     }
 
-    -- "is refused for want of a seed exactly when some group has no seed below the limit under which such a sequence exists, and the
-    -- refusal names the lowest such group":
+    -- The refusal with 7 at a group, by that group and those below it.
     pub refused-exactly : (g : ℕ) → (answer ≡ refused 7 g)
         ↔ ((g < groups) × ((s : ℕ) → s < limit → Nothing tags groups g s) × ((h : ℕ) → h < g → Seed tags groups limit h))
     refused-exactly g = (
@@ -155,3 +160,48 @@ module _ {tags : List ℕ} {groups limit room : ℕ} {answer : Outcome ℕ} {aft
     pub accepted-otherwise : ((g : ℕ) → g < groups → Seed tags groups limit g) → answer ≡ answered (11 * (1 + groups + length tags))
     accepted-otherwise every =
         c .otherwise checks (λ g low. let has = every g (low .group) in low .without (has .0) (has .1) (has .2 .0) (has .2 .1))
+
+    -- A group has such a seed, or it has none: the search for the least decides it.
+    seed-of : (g : ℕ) {s : ℕ} → leastSeed (members groups g tags) limit ≡ some s → Seed tags groups limit g
+    seed-of g {s} e = let found = leastSeed-some (members groups g tags) limit e in (s, found .below, (_, found .fills))
+
+    without-of : (g : ℕ) → leastSeed (members groups g tags) limit ≡ none → (s : ℕ) → s < limit → Nothing tags groups g s
+    without-of g e = leastSeed-none (members groups g tags) limit e
+
+    -- "is refused for want of a seed exactly when some group has no seed below the limit under which such a sequence exists,
+    pub refused-for-want : ((g : ℕ) × (answer ≡ refused 7 g)) ↔ ((g : ℕ) × (g < groups) × (Seed tags groups limit g → ⊥))
+    refused-for-want = (
+      λ is.
+          let (below, without, lower) = (refused-exactly (is .0)) .0 (is .1) in
+          (is .0, below, λ has. without (has .0) (has .1) (has .2 .0) (has .2 .1)),
+      λ has-none. lowest (has-none .0) (has-none .1) (has-none .2) (first test groups) refl,
+    )
+      where
+        test : ℕ → Bool
+        test g = not (isSome (leastSeed (members groups g tags) limit))
+
+        lowest : (g : ℕ) → g < groups → (Seed tags groups limit g → ⊥) → (o : Option ℕ) → first test groups ≡ o
+            → (g : ℕ) × (answer ≡ refused 7 g)
+        lowest g lt without none e =
+            let has = some-of-isSome _ (not-false _ (first-none test groups e g lt)) in
+            absurd (without (seed-of g (has .1)))
+        lowest g lt without (some k) e =
+            let at = first-some test groups e in (
+              k,
+              (refused-exactly k) .1 (
+                at .below,
+                without-of k (none-of-isSome _ (not-true _ (at .holds))),
+                λ h below. seed-of h (some-of-isSome _ (not-false _ (at .lowest h below)) .1),
+              ),
+            )
+
+    -- and the refusal names the lowest such group."
+    pub names-lowest : (g : ℕ) → answer ≡ refused 7 g
+        → (g < groups) × (Seed tags groups limit g → ⊥) × ((h : ℕ) → (Seed tags groups limit h → ⊥) → g ≤ h)
+    names-lowest g is =
+        let (below, without, lower) = (refused-exactly g) .0 is in
+        (below, λ has. without (has .0) (has .1) (has .2 .0) (has .2 .1), λ h none-there. not-lower lower h none-there (ltb h g) refl)
+      where
+        not-lower : ((h : ℕ) → h < g → Seed tags groups limit h) → (h : ℕ) → (Seed tags groups limit h → ⊥) → (b : Bool) → ltb h g ≡ b → g ≤ h
+        not-lower lower h none-there true e = absurd (none-there (lower h (ltb-true h g e)))
+        not-lower lower h none-there false e = ltb-false h g e

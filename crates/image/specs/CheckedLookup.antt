@@ -9,6 +9,7 @@ use Prim.Native.Nat.{ℕ, zero, suc, _+_, _-_, _≤_, _<_}
 use native.Mathlib.Omega.{arith}
 use lib.Dec.{eqb, leb, ltb}
 use borrow.Author.Tests.{ltb-true, ltb-false, lt-ltb, le-ltb, leb-true, le-leb, eqb-true, eqb-false, eq-eqb, ne-eqb, not-true, not-false}
+use Rattle.refusal.specs.Limits.{tagsMax}
 use Rattle.refusal.specs.BoolLaws.{both-of-and, neither-of-or, either-of-or}
 use Rattle.refusal.specs.Outcome.{Outcome, answered, refused}
 use Rattle.refusal.specs.First.{first, metAt, isSome}
@@ -22,7 +23,8 @@ use Rattle.text.specs.LineLaws.{image-header-only}
 use Rattle.image.specs.Sheet.{imageLength}
 use Rattle.image.specs.View.{View, viewOf, countIn, groupsIn, startIn, seedIn, endIn, slotLineIn, slotIn, faulty, candidateIn}
 use Rattle.image.specs.Checking.{openingChecks, malformedIn, groupOfSlot, misplaced, repeated, checkingChecks, checkingOf}
-use Rattle.image.specs.Lookup.{Found, number, unknown, lookupChecks, atSlot, lookupInGroup, lookupOf}
+use Rattle.image.specs.Lookup.{Found, number, unknown, groupChecks, lookupChecks, atSlot, lookupInGroup, lookupOf}
+use Rattle.image.specs.LinesRead.{ownGroup, ownSlot}
 use Rattle.image.specs.FaultLaws.{Fair, fair-of-faulty, LiesIn, AllFair, end-most, lies-once, groupOfSlot-lies}
 
 -- Slot j holds tag t.
@@ -102,13 +104,6 @@ pub data Looked (v : View) (t : ℕ) (outcome : Outcome Found) : Type 0 where
   found : (j : ℕ) → HoldsTag v j t → outcome ≡ answered (number j) → Looked v t outcome
   nowhere : ((j : ℕ) → HoldsTag v j t → ⊥) → outcome ≡ answered unknown → Looked v t outcome
 
--- The tag's group, and its slot under a choice.
-abbrev pub ownGroup : View → ℕ → ℕ
-ownGroup v t = groupOf (groupsIn v) t
-
-abbrev pub ownSlot : View → ℕ → ℕ → ℕ
-ownSlot v c t = candidateIn v (ownGroup v t) c t
-
 -- A slot that is not misplaced holds a tag of its group, at one of the tag's places.
 placed-own : (v : View) (j t : ℕ) → slotIn v j ≡ t → misplaced v j ≡ false
     → (ownGroup v t ≡ groupOfSlot v j) × ((j ≡ candidateIn v (groupOfSlot v j) 0 t) ⊎ (j ≡ candidateIn v (groupOfSlot v j) 1 t))
@@ -180,7 +175,7 @@ module _ (v : View) (sound : Sound v) (many : 0 < groupsIn v) where
         go false e = rw e
 
     lookup-passes : (o : Outcome Found) → inOrder (lookupChecks v (ownGroup v t)) o ≡ o
-    unfolding lookupChecks
+    unfolding lookupChecks groupChecks
     lookup-passes o =
         let g = ownGroup v t in
         let line : not (isSome (v .groupAt (suc g))) ≡ false = rw (sound .group-lines g own-below) in
@@ -252,6 +247,15 @@ groups-some image e =
     let ((n, b), reads) = some-of-isSome (imageHeader (lineAt 0 image)) e in
     let range = image-header-only n b (lineAt 0 image) reads in
     rw reads (range .2)
+
+-- A view of bytes has at most 4,096 slots.
+pub count-most : (image : List ℕ) → countIn (viewOf image) ≤ tagsMax
+unfolding countIn viewOf
+count-most image = go (imageHeader (lineAt 0 image)) refl
+  where
+    go : (o : Option (ℕ × ℕ)) → imageHeader (lineAt 0 image) ≡ o → (Option·getD o (0, 0)) .0 ≤ tagsMax
+    go none e = omega arith
+    go (some (n, b)) e = (image-header-only n b (lineAt 0 image) e) .1
 
 -- Slot j of an image holds t.
 abbrev pub SlotHolds : List ℕ → ℕ → ℕ → Type 0

@@ -3,6 +3,7 @@ pub mod SheetLaws
 pub mod View
 pub mod Checking
 pub mod Lookup
+pub mod LinesRead
 pub mod FaultLaws
 pub mod CheckedLookup
 pub mod LookupLaws

@@ -16,15 +16,18 @@ pub data Found : Type 0 where
   number : ℕ → Found
   unknown : Found
 
--- "First 11, 12 and 11 as in checking. Then 12 at the tag's group line, then at the next group's line if there is one. 13 at that
--- group if it is faulty in the sense above or its end exceeds N."
-unfoldable pub lookupChecks : View → ℕ → List Check
-lookupChecks v g =
-    openingChecks v
-    ++ (12, metAt (suc g) (not (isSome (v .groupAt (suc g)))))
+-- "Then 12 at the tag's group line, then at the next group's line if there is one. 13 at that group if it is faulty in the sense
+-- above or its end exceeds N."
+unfoldable pub groupChecks : View → ℕ → List Check
+groupChecks v g =
+    (12, metAt (suc g) (not (isSome (v .groupAt (suc g)))))
     ∷ (12, metAt (suc (suc g)) (ltb (suc g) (groupsIn v) && not (isSome (v .groupAt (suc (suc g))))))
     ∷ (13, metAt g (faulty g (startIn v g) (endIn v g) || ltb (countIn v) (endIn v g)))
     ∷ []
+
+-- "First 11, 12 and 11 as in checking", then those.
+unfoldable pub lookupChecks : View → ℕ → List Check
+lookupChecks v g = openingChecks v ++ groupChecks v g
 
 -- A slot looked at: "12 if malformed; its number if it holds the tag", and else what comes next.
 unfoldable pub atSlot : View → ℕ → ℕ → Outcome Found → Outcome Found

@@ -14,123 +14,167 @@ use Rattle.refusal.specs.Outcome.{Outcome, answered, refused}
 use Rattle.refusal.specs.First.{metAt, isSome}
 use Rattle.refusal.specs.FirstLaws.{some-of-isSome}
 use Rattle.refusal.specs.Checks.{Check, inOrder}
-use Rattle.refusal.specs.ChecksLaws.{false-of-metAt, Pass, inOrder-answered}
+use Rattle.refusal.specs.ChecksLaws.{false-of-metAt, Pass, pass-append, Agree, agree-same, inOrder-agree, inOrder-append, inOrder-answered}
 use Rattle.hash.specs.Formula.{groupOf, placeOf}
 use Rattle.hash.specs.FormulaLaws.{place-below}
 use Rattle.text.specs.Line.{lineAt, imageHeader, groupLine, slotLine}
 use Rattle.image.specs.View.{View, viewOf, countIn, groupsIn, startIn, seedIn, endIn, slotLineIn, slotIn, faulty, candidateIn}
 use Rattle.image.specs.Checking.{openingChecks}
-use Rattle.image.specs.Lookup.{Found, number, unknown, lookupChecks, atSlot, lookupInGroup, lookupOf}
+use Rattle.image.specs.Lookup.{Found, number, unknown, groupChecks, lookupChecks, atSlot, lookupInGroup, lookupOf}
 use Rattle.image.specs.FaultLaws.{Fair, fair-of-faulty}
-use Rattle.image.specs.CheckedLookup.{HoldsTag, SlotHolds, ownGroup, ownSlot}
-
--- Two views that agree on the length, line 0, the tag's group line, the next one if there is one, and the two slot lines.
-record Agree (v w : View) (t : ℕ) : Type 0 where
-  size : v .size ≡ w .size
-  header : v .header ≡ w .header
-  own : v .groupAt (suc (ownGroup v t)) ≡ w .groupAt (suc (ownGroup v t))
-  next : suc (ownGroup v t) < groupsIn v → v .groupAt (suc (suc (ownGroup v t))) ≡ w .groupAt (suc (suc (ownGroup v t)))
-  slots : (c : ℕ) → c < 2 → v .slotAt (slotLineIn v (ownSlot v c t)) ≡ w .slotAt (slotLineIn v (ownSlot v c t))
+use Rattle.image.specs.LinesRead.{LinesRead, ownGroup, ownSlot}
+use Rattle.image.specs.CheckedLookup.{HoldsTag, SlotHolds}
 
 and-cond : (a b : Bool) → (a && b) ≡ cond a b false
 and-cond true b = refl
 and-cond false b = refl
 
-module _ (v w : View) (t : ℕ) (a : Agree v w t) where
+-- Two views agree on a line: they read it alike, as line 0, as a group line and as a slot line.
+record AgreeAt (v w : View) (k : ℕ) : Type 0 where
+  header : k ≡ 0 → v .header ≡ w .header
+  group : v .groupAt k ≡ w .groupAt k
+  slot : v .slotAt k ≡ w .slotAt k
+
+-- Two views of one length that agree on the lines that a lookup in the first comes to read.
+module _ (v w : View) (t : ℕ) (same-size : v .size ≡ w .size) (read : LinesRead v t (AgreeAt v w)) where
+  same-header : v .header ≡ w .header
+  same-header = read .header .header refl
+
   same-groups : groupsIn v ≡ groupsIn w
   unfolding groupsIn
-  same-groups = rw (a .header)
+  same-groups = rw same-header
 
   same-count : countIn v ≡ countIn w
   unfolding countIn
-  same-count = rw (a .header)
+  same-count = rw same-header
 
-  same-own : v .groupAt (suc (ownGroup v t)) ≡ w .groupAt (suc (ownGroup w t))
-  same-own = a .own ∙ rw same-groups
+  same-opening : openingChecks v ≡ openingChecks w
+  unfolding openingChecks
+  same-opening = cc (same-size, same-header, same-groups, same-count)
 
-  same-start : startIn v (ownGroup v t) ≡ startIn w (ownGroup w t)
-  unfolding startIn
-  same-start = ap (λ (o : Option (ℕ × ℕ)). (Option·getD o (0, 0)) .0) same-own
+  -- The tag's two slots looked at.
+  abbrev slotsOf : View → Outcome Found
+  slotsOf x = atSlot x t (ownSlot x 0 t) (atSlot x t (ownSlot x 1 t) (answered unknown))
 
-  same-seed : seedIn v (ownGroup v t) ≡ seedIn w (ownGroup w t)
-  unfolding seedIn
-  same-seed = ap (λ (o : Option (ℕ × ℕ)). (Option·getD o (0, 0)) .1) same-own
+  -- The image opens: the tag's group line is read,
+  module _ (opens : Pass (openingChecks v)) where
+    same-own : v .groupAt (suc (ownGroup v t)) ≡ w .groupAt (suc (ownGroup w t))
+    same-own = read .own opens .group ∙ rw same-groups
 
-  -- The next line counts only where there is a next group.
-  same-next : {A : Type 0} (f : Option (ℕ × ℕ) → A) (d : A)
-      → cond (ltb (suc (ownGroup v t)) (groupsIn v)) (f (v .groupAt (suc (suc (ownGroup v t))))) d
-      ≡ cond (ltb (suc (ownGroup w t)) (groupsIn w)) (f (w .groupAt (suc (suc (ownGroup w t))))) d
-  same-next f d = go (ltb (suc (ownGroup v t)) (groupsIn v)) refl ∙ ap (λ (b : ℕ). cond (ltb (suc (groupOf b t)) b) (f (w .groupAt (suc (suc (groupOf b t))))) d) same-groups
-    where
-      go : (b : Bool) → ltb (suc (ownGroup v t)) (groupsIn v) ≡ b
+    same-start : startIn v (ownGroup v t) ≡ startIn w (ownGroup w t)
+    unfolding startIn
+    same-start = ap (λ (o : Option (ℕ × ℕ)). (Option·getD o (0, 0)) .0) same-own
+
+    same-seed : seedIn v (ownGroup v t) ≡ seedIn w (ownGroup w t)
+    unfolding seedIn
+    same-seed = ap (λ (o : Option (ℕ × ℕ)). (Option·getD o (0, 0)) .1) same-own
+
+    -- and where it is well formed the next one, which counts only where there is a next group.
+    module _ (well : isSome (v .groupAt (suc (ownGroup v t))) ≡ true) where
+      same-next : {A : Type 0} (f : Option (ℕ × ℕ) → A) (d : A)
           → cond (ltb (suc (ownGroup v t)) (groupsIn v)) (f (v .groupAt (suc (suc (ownGroup v t))))) d
-          ≡ cond (ltb (suc (ownGroup v t)) (groupsIn v)) (f (w .groupAt (suc (suc (ownGroup v t))))) d
-      go true e = rw (a .next (ltb-true (suc (ownGroup v t)) (groupsIn v) e))
-      go false e = rw e
+          ≡ cond (ltb (suc (ownGroup w t)) (groupsIn w)) (f (w .groupAt (suc (suc (ownGroup w t))))) d
+      same-next f d = go (ltb (suc (ownGroup v t)) (groupsIn v)) refl ∙ ap (λ (b : ℕ). cond (ltb (suc (groupOf b t)) b) (f (w .groupAt (suc (suc (groupOf b t))))) d) same-groups
+        where
+          go : (b : Bool) → ltb (suc (ownGroup v t)) (groupsIn v) ≡ b
+              → cond (ltb (suc (ownGroup v t)) (groupsIn v)) (f (v .groupAt (suc (suc (ownGroup v t))))) d
+              ≡ cond (ltb (suc (ownGroup v t)) (groupsIn v)) (f (w .groupAt (suc (suc (ownGroup v t))))) d
+          go true e = rw (read .next opens well (ltb-true (suc (ownGroup v t)) (groupsIn v) e) .group)
+          go false e = rw e
 
-  same-end : endIn v (ownGroup v t) ≡ endIn w (ownGroup w t)
-  unfolding endIn startIn
-  same-end = ap (cond (ltb (suc (ownGroup v t)) (groupsIn v)) (startIn v (suc (ownGroup v t)))) same-count ∙ same-next (λ o. (Option·getD o (0, 0)) .0) (countIn w)
+      same-end : endIn v (ownGroup v t) ≡ endIn w (ownGroup w t)
+      unfolding endIn startIn
+      same-end = ap (cond (ltb (suc (ownGroup v t)) (groupsIn v)) (startIn v (suc (ownGroup v t)))) same-count ∙ same-next (λ o. (Option·getD o (0, 0)) .0) (countIn w)
 
-  same-slot : (c : ℕ) → ownSlot v c t ≡ ownSlot w c t
-  unfolding candidateIn
-  same-slot c = cc (same-start, same-end, same-seed)
+      -- "then at the next group's line if there is one"
+      same-malformed : (ltb (suc (ownGroup v t)) (groupsIn v) && not (isSome (v .groupAt (suc (suc (ownGroup v t))))))
+          ≡ (ltb (suc (ownGroup w t)) (groupsIn w) && not (isSome (w .groupAt (suc (suc (ownGroup w t))))))
+      same-malformed =
+          and-cond (ltb (suc (ownGroup v t)) (groupsIn v)) (not (isSome (v .groupAt (suc (suc (ownGroup v t))))))
+          ∙ same-next (λ o. not (isSome o)) false
+          ∙ sym (and-cond (ltb (suc (ownGroup w t)) (groupsIn w)) (not (isSome (w .groupAt (suc (suc (ownGroup w t)))))))
 
-  same-place : (c : ℕ) → slotLineIn v (ownSlot v c t) ≡ slotLineIn w (ownSlot w c t)
-  unfolding slotLineIn
-  same-place c = cc (same-groups, same-slot c)
+      same-slot : (c : ℕ) → ownSlot v c t ≡ ownSlot w c t
+      unfolding candidateIn
+      same-slot c = cc (same-start, same-end, same-seed)
 
-  same-line : (c : ℕ) → c < 2 → v .slotAt (slotLineIn v (ownSlot v c t)) ≡ w .slotAt (slotLineIn w (ownSlot w c t))
-  same-line c lt = a .slots c lt ∙ rw same-place
+      same-place : (c : ℕ) → slotLineIn v (ownSlot v c t) ≡ slotLineIn w (ownSlot w c t)
+      unfolding slotLineIn
+      same-place c = cc (same-groups, same-slot c)
 
-  -- "then at the next group's line if there is one"
-  same-malformed : (ltb (suc (ownGroup v t)) (groupsIn v) && not (isSome (v .groupAt (suc (suc (ownGroup v t))))))
-      ≡ (ltb (suc (ownGroup w t)) (groupsIn w) && not (isSome (w .groupAt (suc (suc (ownGroup w t))))))
-  same-malformed =
-      and-cond (ltb (suc (ownGroup v t)) (groupsIn v)) (not (isSome (v .groupAt (suc (suc (ownGroup v t))))))
-      ∙ same-next (λ o. not (isSome o)) false
-      ∙ sym (and-cond (ltb (suc (ownGroup w t)) (groupsIn w)) (not (isSome (w .groupAt (suc (suc (ownGroup w t)))))))
+      -- A slot looked at: equal lines, and what comes next only where the line is well formed and holds another tag.
+      slot-agrees : (c : ℕ) (o p : Outcome Found) → AgreeAt v w (slotLineIn v (ownSlot v c t))
+          → ((u : ℕ) → v .slotAt (slotLineIn v (ownSlot v c t)) ≡ some u → (u ≡ t → ⊥) → o ≡ p)
+          → atSlot v t (ownSlot v c t) o ≡ atSlot w t (ownSlot w c t) p
+      unfolding atSlot slotIn
+      slot-agrees c o p same next = inOrder-agree _ _ _ _ (cc (line, same-place c), λ passes. held passes)
+        where
+          line : v .slotAt (slotLineIn v (ownSlot v c t)) ≡ w .slotAt (slotLineIn w (ownSlot w c t))
+          line = same .slot ∙ rw (same-place c)
+
+          held : metAt (slotLineIn v (ownSlot v c t)) (not (isSome (v .slotAt (slotLineIn v (ownSlot v c t))))) ≡ none
+              → cond (eqb (Option·getD (v .slotAt (slotLineIn v (ownSlot v c t))) 0) t) (answered (number (ownSlot v c t))) o
+              ≡ cond (eqb (Option·getD (w .slotAt (slotLineIn w (ownSlot w c t))) 0) t) (answered (number (ownSlot w c t))) p
+          held passes =
+              let (u, reads) = some-of-isSome _ (not-false _ (false-of-metAt (slotLineIn v (ownSlot v c t)) _ passes)) in
+              rw (← line, ← same-slot c, reads) (go u reads (eqb u t) refl)
+            where
+              go : (u : ℕ) → v .slotAt (slotLineIn v (ownSlot v c t)) ≡ some u → (b : Bool) → eqb u t ≡ b
+                  → cond (eqb u t) (answered (number (ownSlot v c t))) o ≡ cond (eqb u t) (answered (number (ownSlot v c t))) p
+              go u reads true e = rw e
+              go u reads false e = rw e (next u reads (eqb-false u t e))
+
+      -- Where no check refuses the slots are looked at, unless the group is empty.
+      slots-agree : Pass (lookupChecks v (ownGroup v t))
+          → cond (eqb (startIn v (ownGroup v t)) (endIn v (ownGroup v t))) (answered unknown) (slotsOf v)
+          ≡ cond (eqb (startIn w (ownGroup w t)) (endIn w (ownGroup w t))) (answered unknown) (slotsOf w)
+      slots-agree passes = rw (← same-start, ← same-end) (go (eqb (startIn v (ownGroup v t)) (endIn v (ownGroup v t))) refl)
+        where
+          go : (b : Bool) → eqb (startIn v (ownGroup v t)) (endIn v (ownGroup v t)) ≡ b
+              → cond (eqb (startIn v (ownGroup v t)) (endIn v (ownGroup v t))) (answered unknown) (slotsOf v)
+              ≡ cond (eqb (startIn v (ownGroup v t)) (endIn v (ownGroup v t))) (answered unknown) (slotsOf w)
+          go true e = rw e
+          go false e =
+              let filled = eqb-false (startIn v (ownGroup v t)) (endIn v (ownGroup v t)) e in
+              rw e (slot-agrees 0 _ _ (read .first-slot passes filled)
+              (λ u reads other. slot-agrees 1 _ _ (read .second-slot passes filled u reads other) (λ _ _ _. refl)))
 
   lookup-agrees : lookupInGroup v t (ownGroup v t) ≡ lookupInGroup w t (ownGroup w t)
-  unfolding lookupInGroup lookupChecks openingChecks atSlot slotIn
-  lookup-agrees = cc (
-    a .size,
-    a .header,
-    same-groups,
-    same-count,
-    same-own,
-    same-start,
-    same-end,
-    same-malformed,
-    same-slot 0,
-    same-slot 1,
-    same-place 0,
-    same-place 1,
-    same-line 0 (omega arith),
-    same-line 1 (omega arith),
-  )
-
--- Two images that agree on the length, line 0, the tag's group line, the next one if there is one, and the slot lines of the tag's
--- two places.
-pub record SameLines (p q : List ℕ) (t : ℕ) : Type 0 where
-  pub size : length p ≡ length q
-  pub header : lineAt 0 p ≡ lineAt 0 q
-  pub own : lineAt (suc (ownGroup (viewOf p) t)) p ≡ lineAt (suc (ownGroup (viewOf p) t)) q
-  pub next : suc (ownGroup (viewOf p) t) < groupsIn (viewOf p)
-      → lineAt (suc (suc (ownGroup (viewOf p) t))) p ≡ lineAt (suc (suc (ownGroup (viewOf p) t))) q
-  pub slots : (c : ℕ) → c < 2
-      → lineAt (slotLineIn (viewOf p) (ownSlot (viewOf p) c t)) p ≡ lineAt (slotLineIn (viewOf p) (ownSlot (viewOf p) c t)) q
+  unfolding lookupInGroup lookupChecks groupChecks
+  lookup-agrees =
+      inOrder-append (openingChecks v) _ _
+      ∙ inOrder-agree (openingChecks v) (openingChecks w) _ _ (rw (← same-opening) (agree-same (openingChecks v) _ behind))
+      ∙ sym (inOrder-append (openingChecks w) _ _)
+    where
+      behind : Pass (openingChecks v)
+          → inOrder (groupChecks v (ownGroup v t)) (cond (eqb (startIn v (ownGroup v t)) (endIn v (ownGroup v t))) (answered unknown) (slotsOf v))
+          ≡ inOrder (groupChecks w (ownGroup w t)) (cond (eqb (startIn w (ownGroup w t)) (endIn w (ownGroup w t))) (answered unknown) (slotsOf w))
+      behind opens = inOrder-agree (groupChecks v (ownGroup v t)) (groupChecks w (ownGroup w t)) _ _ (
+        cc (same-own opens, same-groups),
+        λ own.
+            let well = not-false _ (false-of-metAt (suc (ownGroup v t)) _ own) in (
+              cc (same-malformed opens well, same-groups),
+              λ next. (
+                cc (same-start opens, same-end opens well, same-count, same-groups),
+                λ fault. slots-agree opens well (pass-append (openingChecks v) (groupChecks v (ownGroup v t)) opens (own, (next, (fault, tt)))),
+              ),
+            ),
+      )
 
 -- "It depends on the image's length, line 0, those two group lines, those two slot lines and the tag, and on no other byte."
-pub lookup-depends : (p q : List ℕ) (t : ℕ) → SameLines p q t → lookupOf p t ≡ lookupOf q t
+pub lookup-depends : (p q : List ℕ) (t : ℕ) → length p ≡ length q → LinesRead (viewOf p) t (λ k. lineAt k p ≡ lineAt k q)
+    → lookupOf p t ≡ lookupOf q t
 unfolding lookupOf viewOf
-lookup-depends p q t same = lookup-agrees (viewOf p) (viewOf q) t record {
-  size = same .size;
-  header = ap imageHeader (same .header);
-  own = ap groupLine (same .own);
-  next = λ h. ap groupLine (same .next h);
-  slots = λ c lt. ap slotLine (same .slots c lt);
+lookup-depends p q t size read = lookup-agrees (viewOf p) (viewOf q) t size record {
+  header = agree 0 (read .header);
+  own = λ opens. agree _ (read .own opens);
+  next = λ opens well more. agree _ (read .next opens well more);
+  first-slot = λ passes filled. agree _ (read .first-slot passes filled);
+  second-slot = λ passes filled u reads other. agree _ (read .second-slot passes filled u reads other);
 }
+  where
+    agree : (k : ℕ) → lineAt k p ≡ lineAt k q → AgreeAt (viewOf p) (viewOf q) k
+    agree k same = record { header = λ first. ap imageHeader (rw first at same); group = ap groupLine same; slot = ap slotLine same }
 
 -- A slot looked at answers j only where it is slot j and holds the tag, or where what comes next answers j.
 slot-answers : (v : View) (t i j : ℕ) (next : Outcome Found) → i < countIn v → atSlot v t i next ≡ answered (number j)
@@ -150,7 +194,7 @@ slot-answers v t i j next inside e =
     go u reads false f e = inr (rw f at e)
 
 view-any : (v : View) (t j : ℕ) → lookupInGroup v t (ownGroup v t) ≡ answered (number j) → HoldsTag v j t
-unfolding lookupInGroup lookupChecks openingChecks candidateIn
+unfolding lookupInGroup lookupChecks groupChecks openingChecks candidateIn
 view-any v t j e =
     let g = ownGroup v t in
     let ((a, (b, (c, (d, (f, (group, end)))))), e′) = inOrder-answered (lookupChecks v g) _ e in

@@ -1,27 +1,17 @@
 -- The steps of a lookup behind the opening checks. Assumes nothing.
 use Prim.Native.Nat.{ℕ, suc, _+_, _-_}
-use mathlib.Core.Bool.{cond, not, _&&_, _||_}
-use mathlib.Core.List.{List, [], _∷_}
+use mathlib.Core.Bool.{cond}
 use mathlib.Core.Option.{Option, some, Option·map}
 use lib.Dec.{eqb, ltb}
 use Rattle.refusal.specs.Outcome.{Outcome, answered}
-use Rattle.refusal.specs.First.{metAt, isSome}
-use Rattle.refusal.specs.Checks.{Check, inOrder}
+use Rattle.refusal.specs.Checks.{inOrder}
 use Rattle.hash.specs.Formula.{placeOf}
-use Rattle.image.specs.View.{View, countIn, groupsIn, startIn, seedIn, endIn, faulty}
-use Rattle.image.specs.Lookup.{Found, unknown, atSlot}
+use Rattle.image.specs.View.{View, countIn, groupsIn, startIn, seedIn, endIn}
+use Rattle.image.specs.Lookup.{Found, unknown, groupChecks, atSlot}
 
 -- Where group g ends, read from the next group's line if there is one; none where that line is malformed.
 unfoldable pub endOf : View → ℕ → Option ℕ
 endOf v g = cond (ltb (suc g) (groupsIn v)) (Option·map (λ h. h .0) (v .groupAt (suc (suc g)))) (some (countIn v))
-
--- The checks of lookup behind the opening ones.
-unfoldable pub groupChecks : View → ℕ → List Check
-groupChecks v g =
-    (12, metAt (suc g) (not (isSome (v .groupAt (suc g)))))
-    ∷ (12, metAt (suc (suc g)) (ltb (suc g) (groupsIn v) && not (isSome (v .groupAt (suc (suc g))))))
-    ∷ (13, metAt g (faulty g (startIn v g) (endIn v g) || ltb (countIn v) (endIn v g)))
-    ∷ []
 
 -- The slots looked at, for a group from `start` up to `end` with this seed.
 unfoldable pub slotsOf : View → ℕ → ℕ → ℕ → ℕ → Outcome Found

@@ -15,10 +15,10 @@ use Rattle.hash.specs.Formula.{groupOf, placeOf}
 use Rattle.text.specs.Line.{lineAt, groupLine, slotLine}
 use Rattle.image.specs.View.{View, viewOf, countIn, groupsIn, startIn, seedIn, endIn, slotLineIn, slotIn, faulty, candidateIn}
 use Rattle.image.specs.Checking.{openingChecks}
-use Rattle.image.specs.Lookup.{Found, number, unknown, lookupChecks, atSlot, lookupInGroup, lookupOf}
+use Rattle.image.specs.Lookup.{Found, number, unknown, groupChecks, lookupChecks, atSlot, lookupInGroup, lookupOf}
 use Rattle.opening.specs.Opening.{openingOf}
 use Rattle.opening.specs.OpeningLaws.{opening-refused, opening-passes, Opens, opening-answered}
-use Rattle.lookup.specs.Steps.{endOf, groupChecks, slotsOf, groupOutcome}
+use Rattle.lookup.specs.Steps.{endOf, slotsOf, groupOutcome}
 
 module _ (image : List ℕ) where
   -- Where a group ends.
@@ -156,7 +156,7 @@ module _ (image : List ℕ) where
 
   pub lookup-opened : {count groups : ℕ} → openingOf image ≡ answered (count, groups) → (t : ℕ)
       → lookupOf image t ≡ groupOutcome (viewOf image) t (groupOf groups t)
-  unfolding lookupOf lookupInGroup lookupChecks groupOutcome groupChecks slotsOf candidateIn
+  unfolding lookupOf lookupInGroup lookupChecks groupOutcome slotsOf candidateIn
   lookup-opened e t =
       inOrder-append (openingChecks (viewOf image)) _ _
       ∙ opening-passes image e _

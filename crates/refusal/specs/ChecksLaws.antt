@@ -1,11 +1,12 @@
 -- When the checks pass, and which refusal comes where they do not. Assumes nothing.
 use Prim.Native.Nat.{ℕ}
-use mathlib.Core.Path.{_≡_, refl}
+use mathlib.Core.Path.{_≡_, refl, _∙_, ap}
 use mathlib.Core.Logic.{_⊎_, inl, inr}
-use mathlib.Core.Bool.{Bool, true, false}
+use mathlib.Core.Bool.{Bool, true, false, cond}
 use mathlib.Core.List.{List, [], _∷_, _++_}
-use mathlib.Core.Option.{none, some}
+use mathlib.Core.Option.{Option, none, some}
 use native.Mathlib.Omega.{arith}
+use lib.Dec.{eqb}
 use Rattle.refusal.specs.Outcome.{Outcome, answered, refused}
 use Rattle.refusal.specs.First.{metAt}
 use Rattle.refusal.specs.Checks.{Check, met, inOrder}
@@ -64,7 +65,46 @@ Met [] number place = ⊥
 Met (check ∷ checks) number place =
     ((check .0 ≡ number) × (check .1 ≡ some place)) ⊎ ((check .1 ≡ none) × Met checks number place)
 
+-- Where the condition of the check with a number is met: that of the first such check, and none where there is no such check.
+abbrev pub metBy : List Check → ℕ → Option ℕ
+metBy [] number = none
+metBy (check ∷ checks) number = cond (eqb (check .0) number) (check .1) (metBy checks number)
+
+-- Where the checks pass, none of them is met, whatever its number.
+pub passed : (checks : List Check) → Pass checks → (number : ℕ) → metBy checks number ≡ none
+passed [] h number = refl
+passed (check ∷ checks) h number = go (eqb (check .0) number) (passed checks (h .1) number)
+  where
+    go : (b : Bool) → metBy checks number ≡ none → cond b (check .1) (metBy checks number) ≡ none
+    go true later = h .0
+    go false later = later
+
+pub pass-append : (checks more : List Check) → Pass checks → Pass more → Pass (checks ++ more)
+pass-append [] more h j = j
+pass-append (check ∷ checks) more h j = (h .0, pass-append checks more (h .1) j)
+
+-- Two lists of checks agree, each check where those before it pass; and where all pass this holds behind them.
+abbrev pub Agree : List Check → List Check → Type 0 → Type 0
+Agree [] [] behind = behind
+Agree [] (other ∷ others) behind = ⊥
+Agree (check ∷ checks) [] behind = ⊥
+Agree (check ∷ checks) (other ∷ others) behind = (check ≡ other) × (check .1 ≡ none → Agree checks others behind)
+
+pub agree-same : (checks : List Check) (behind : Type 0) → (Pass checks → behind) → Agree checks checks behind
+agree-same [] behind h = h tt
+agree-same (check ∷ checks) behind h = (refl, λ passes. agree-same checks behind (λ rest. h (passes, rest)))
+
 module _ {A : Type 0} where
+  -- Then they come to the same.
+  pub inOrder-agree : (checks others : List Check) (o p : Outcome A) → Agree checks others (o ≡ p) → inOrder checks o ≡ inOrder others p
+  unfolding inOrder
+  inOrder-agree [] [] o p h = h
+  inOrder-agree [] (other ∷ others) o p h = absurd h
+  inOrder-agree (check ∷ checks) [] o p h = absurd h
+  inOrder-agree ((number, none) ∷ checks) (other ∷ others) o p h =
+      inOrder-agree checks others o p (h .1 refl) ∙ ap (λ (c : Check). inOrder (c ∷ others) p) (h .0)
+  inOrder-agree ((number, some place) ∷ checks) (other ∷ others) o p h = ap (λ (c : Check). inOrder (c ∷ others) p) (h .0)
+
   -- Checks that pass leave what stands behind them.
   pub inOrder-pass : (checks : List Check) (o : Outcome A) → Pass checks → inOrder checks o ≡ o
   unfolding inOrder

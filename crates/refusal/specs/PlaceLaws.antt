@@ -1,10 +1,13 @@
--- How far a refusal's place can lie: below a bound, from an operation's list of checks. Assumes nothing.
+-- How far a refusal's place can lie, and that its number is not 0: from an operation's list of checks. Assumes nothing.
 use mathlib.Core.Path.{_≡_, refl}
-use mathlib.Core.Bool.{Bool, true, false, cond}
+use mathlib.Core.Bool.{Bool, true, false, cond, _&&_}
 use mathlib.Core.List.{List, [], _∷_}
 use mathlib.Core.Option.{Option, none, some}
 use Prim.Native.Nat.{ℕ, _≤_, _<_}
 use native.Mathlib.Omega.{arith}
+use lib.Dec.{ltb}
+use borrow.Author.Tests.{ltb-true}
+use Rattle.refusal.specs.BoolLaws.{both-of-and}
 use Rattle.refusal.specs.Outcome.{Outcome, answered, refused, followedBy}
 use Rattle.refusal.specs.First.{metAt, first}
 use Rattle.refusal.specs.FirstLaws.{first-some}
@@ -68,3 +71,30 @@ module _ (bound : ℕ) where
       go : (o : Option ℕ) → first test limit ≡ o → SpotBelow bound o
       go none e = tt
       go (some k) e = omega (arith, (first-some test limit e) .below)
+
+-- Every check has a number from 1 on.
+abbrev pub allNumbered : List Check → Bool
+allNumbered [] = true
+allNumbered (check ∷ checks) = ltb 0 (check .0) && allNumbered checks
+
+-- A refusal has one. An answer has none.
+abbrev pub Numbered : {A : Type 0} → Outcome A → Type 0
+Numbered (answered a) = Unit {0}
+Numbered (refused number place) = 0 < number
+
+module _ {A : Type 0} where
+  pub numbered-checks : (checks : List Check) (o : Outcome A) → allNumbered checks ≡ true → Numbered o → Numbered (inOrder checks o)
+  unfolding inOrder
+  numbered-checks [] o e h = h
+  numbered-checks ((number, none) ∷ checks) o e h = numbered-checks checks o ((both-of-and (ltb 0 number) (allNumbered checks) e) .1) h
+  numbered-checks ((number, some place) ∷ checks) o e h = ltb-true 0 number ((both-of-and (ltb 0 number) (allNumbered checks) e) .0)
+
+  pub numbered-followed : {B : Type 0} (o : Outcome B) (next : B → Outcome A) → Numbered o → ((b : B) → Numbered (next b))
+      → Numbered (followedBy o next)
+  unfolding followedBy
+  numbered-followed (answered b) next h h′ = h′ b
+  numbered-followed (refused number place) next h h′ = h
+
+  pub numbered-cond : (b : Bool) (o p : Outcome A) → Numbered o → Numbered p → Numbered (cond b o p)
+  numbered-cond true o p h h′ = h
+  numbered-cond false o p h h′ = h′

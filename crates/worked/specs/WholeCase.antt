@@ -22,7 +22,7 @@ use Rattle.list.specs.Reading.{malformed, lineCount, tagCount, tagsFrom, listed
 use Rattle.image.specs.Sheet.{upTo, linesOf, bytesOf, imageLength}
 use Rattle.image.specs.View.{viewOf, countIn, groupsIn, startIn, seedIn, slotLineIn, slotIn, endIn, faulty, candidateIn}
 use Rattle.image.specs.Checking.{openingChecks, malformedIn, groupOfSlot, misplaced, repeated, checkingChecks, checkingOf}
-use Rattle.image.specs.Lookup.{Found, number, unknown, lookupChecks, atSlot, lookupInGroup, lookupOf}
+use Rattle.image.specs.Lookup.{Found, number, unknown, groupChecks, lookupChecks, atSlot, lookupInGroup, lookupOf}
 use Rattle.building.specs.Members.{select, members, startOf}
 use Rattle.building.specs.Number.{choiceOf, placeIn, numberOf, tagNumbered}
 use Rattle.building.specs.Building.{sheetOf, seedTaken, choicesTaken, imageOf, buildingChecks, buildingOf}
@@ -32,7 +32,7 @@ use Rattle.boundary.specs.Answer64.{answer64, foundNumber, buildAnswer, checkAn
 
 -- `unfolding computed` opens every definition that these compute through.
 computed : ℕ
-unfolding flatten orElse outside answeredBy followedBy first metAt isSome met inOrder product highPart hashed groupOf multiplier placeOf leading figure valueFrom same field lineAt pairLine tagLine ended bothFields pairOf tagOf within imageHeader groupLine slotLine listHeader listLine occurs distinct placeBy beginning leastFrom least feasible bothPlaces candidates leastSeed taken limitCheck notAbove ascendingCheck malformed lineCount tagCount tagsFrom listedIn readingChecks readingOf upTo linesOf bytesOf imageLength viewOf countIn groupsIn startIn seedIn slotLineIn slotIn endIn faulty candidateIn openingChecks malformedIn groupOfSlot misplaced repeated checkingChecks checkingOf lookupChecks atSlot lookupInGroup lookupOf select members startOf choiceOf placeIn numberOf tagNumbered sheetOf seedTaken choicesTaken imageOf buildingChecks buildingOf listFromText buildingFromText imageOfList outputOf printed answer64 foundNumber buildAnswer checkAnswer lookupAnswer
+unfolding flatten orElse outside answeredBy followedBy first metAt isSome met inOrder product highPart hashed groupOf multiplier placeOf leading figure valueFrom same field lineAt pairLine tagLine ended bothFields pairOf tagOf within imageHeader groupLine slotLine listHeader listLine occurs distinct placeBy beginning leastFrom least feasible bothPlaces candidates leastSeed taken limitCheck notAbove ascendingCheck malformed lineCount tagCount tagsFrom listedIn readingChecks readingOf upTo linesOf bytesOf imageLength viewOf countIn groupsIn startIn seedIn slotLineIn slotIn endIn faulty candidateIn openingChecks malformedIn groupOfSlot misplaced repeated checkingChecks checkingOf groupChecks lookupChecks atSlot lookupInGroup lookupOf select members startOf choiceOf placeIn numberOf tagNumbered sheetOf seedTaken choicesTaken imageOf buildingChecks buildingOf listFromText buildingFromText imageOfList outputOf printed answer64 foundNumber buildAnswer checkAnswer lookupAnswer
 computed = 0
 
 -- "    2    9" and the tags 1, 2, 3, each in a line of its own.

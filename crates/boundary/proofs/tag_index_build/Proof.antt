@@ -1,12 +1,21 @@
 -- `boundary::tag_index_build` meets its contract: the answer is the outcome's, and a refusal's place is a line, an index or a group.
 -- Assumes nothing.
 use borrow.Author.Needs.{needs}
-use mathlib.Core.Path.{sym, _∙_, ap}
+use mathlib.Core.Path.{_≡_, sym, _∙_, ap}
+use mathlib.Core.List.{List}
+use Prim.Native.Nat.{ℕ}
 use native.Mathlib.Omega.{arith}
+use lib.ListN.{length}
+use Rattle.refusal.specs.Outcome.{Outcome}
 use Rattle.build.specs.Answer.{buildOutcome}
+use Rattle.build.specs.declared.BuildAnswer.{BuildAnswer}
+use Rattle.building.specs.FromText.{bufferFromText}
+use Rattle.from_text.specs.Promise.{TextPromised}
 use Rattle.refusal.specs.PlaceLaws.{place-below}
 use Rattle.from_text.specs.PlaceLaws.{textLines, from-text-place}
-use Rattle.boundary.specs.Answer64.{answer64, buildAnswer}
+use Rattle.boundary.specs.Answer64.{answer64, outcome64, buildAnswer}
+use Rattle.boundary.specs.Answer64Laws.{outcome-answer, build-fits}
+use Rattle.boundary.specs.Condition3.{BuildCondition3}
 use Rattle.boundary.proofs.tag_index_build.Statement.{statement}
 use Rattle.boundary.proofs.tag_index_build.Tie as tie
 
@@ -30,26 +39,31 @@ refusal-answer-requires c κs =
 same-length : tie.Need-same-length
 same-length c = search needs
 
+-- The answer, the bytes, and Condition 3 of the answer: the outcome that it is taken apart into is the one that building came to.
+promised : (text before after : List ℕ) (r : ℕ) (outcome : Outcome ℕ) → TextPromised text before outcome after → r ≡ answer64 outcome
+    → (r ≡ buildAnswer text (length before)) × ((after ≡ bufferFromText text before) × BuildCondition3 text before r after)
+unfolding buildAnswer
+promised text before after r outcome (told, (bytes, condition3)) answer =
+    let of-outcome = answer ∙ ap answer64 told in
+    let taken-apart = ap outcome64 of-outcome ∙ outcome-answer _ (build-fits text (length before)) ∙ sym told in
+    (of-outcome, (bytes, rw taken-apart condition3))
+
 returns : tie.Need-returns
-unfolding buildAnswer answer64
+unfolding answer64
 returns c =
     let told = c .before in
     let built = told .before .before .before .before in
-    let promised = built .build-from-text .ensures in
-    let answer = ap answer64 (sym (ap buildOutcome (told .size .given .1)) ∙ promised .0) in
-    (answer, (promised .1 .0, rw (promised .0) at (promised .1 .1)))
+    promised _ _ _ _ _ (built .build-from-text .ensures) (ap (λ (x : BuildAnswer). answer64 (buildOutcome x)) (sym (told .size .given .1)))
 
 same-length-2 : tie.Need-same-length-2
 same-length-2 c = search needs
 
 returns-2 : tie.Need-returns-2
-unfolding buildAnswer
 returns-2 c =
     let told = c .before .before in
     let built = told .before .before .before .before in
-    let promised = built .build-from-text .ensures in
-    let answer = c .refusal-answer .ensures ∙ ap answer64 (sym (ap buildOutcome (told .refusal .given .1)) ∙ promised .0) in
-    (answer, (promised .1 .0, rw (promised .0) at (promised .1 .1)))
+    promised _ _ _ _ _ (built .build-from-text .ensures)
+    (c .refusal-answer .ensures ∙ ap (λ (x : BuildAnswer). answer64 (buildOutcome x)) (sym (told .refusal .given .1)))
 
 pub tag-index-build-spec : {M : Type 1} → statement M
 tag-index-build-spec =
