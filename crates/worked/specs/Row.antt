@@ -2,10 +2,10 @@
 use mathlib.Core.Path.{_≡_}
 use mathlib.Core.Bool.{Bool}
 use mathlib.Core.List.{List, [], _∷_, _++_}
-use Prim.Native.Nat.{ℕ, _≤_}
-use lib.ListN.{length, drop}
+use Prim.Native.Nat.{ℕ, _≤_, _<_}
+use lib.ListN.{length, getD, drop}
 use Rattle.refusal.specs.Outcome.{Outcome, answered}
-use Rattle.hash.specs.Formula.{groupOf}
+use Rattle.hash.specs.Formula.{groupOf, placeOf}
 use Rattle.hash.specs.OneTag.{placeOfOneTag}
 use Rattle.filling.specs.Filling.{Fills}
 use Rattle.group.specs.Group.{groupUnder, taken}
@@ -31,6 +31,8 @@ pub data Claim : Type 0 where
   -- under a seed this choice sequence fills, or is the one taken
   fills : List ℕ → ℕ → List Bool → Claim
   takes : List ℕ → ℕ → List Bool → Claim
+  -- under no seed and no choice does a tag of the group reach this place
+  unreached : List ℕ → ℕ → Claim
 
 -- What a claim says for the seed limit L.
 unfoldable pub Holds : ℕ → Claim → Type 0
@@ -47,6 +49,7 @@ Holds limit (place n seed choice t p) = placeOfOneTag n seed choice t ≡ answer
 Holds limit (group groups t g) = groupOf groups t ≡ g
 Holds limit (fills tags seed choices) = Fills (groupUnder tags seed) choices
 Holds limit (takes tags seed choices) = taken tags seed ≡ choices
+Holds limit (unreached tags p) = (seed choice i : ℕ) → i < length tags → placeOf (length tags) seed choice (getD tags i 0) ≡ p → ⊥
 
 unfoldable pub AllHold : ℕ → List Claim → Type 0
 AllHold limit [] = Unit {0}

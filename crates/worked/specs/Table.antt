@@ -5,7 +5,7 @@ use Prim.Native.Nat.{ℕ}
 use Rattle.refusal.specs.Limits.{limitMax}
 use Rattle.refusal.specs.Outcome.{Outcome, answered, refused}
 use Rattle.group.specs.Placing.{Placement}
-use Rattle.worked.specs.Row.{Claim, placing, building, bytes, number, place, group, fills, takes, Row}
+use Rattle.worked.specs.Row.{Claim, placing, building, bytes, number, place, group, fills, takes, unreached, Row}
 
 -- a row for one limit, and one for every legal limit
 abbrev pub only : ℕ → List Claim → Row
@@ -17,7 +17,7 @@ always claims = record { from = 1; upto = limitMax; claims = claims }
 abbrev pub placed : ℕ → ℕ → Outcome Placement
 placed seed word = answered (record { seed = seed; word = word })
 
--- Value 6's tags, whose place 1 is never reached.
+-- Value 6's tags.
 abbrev pub unreachable : List ℕ
 unreachable = 0 ∷ 1073741824 ∷ 3221225472 ∷ []
 
@@ -57,7 +57,7 @@ value5 = only 1 (placing (0 ∷ 1073741824 ∷ []) (placed 0 2) ∷ [])
 
 -- 6. "One group {0, 1073741824, 3221225472}: refusal 7 for every L from 1 to 65,536, since place 1 is never reached."
 abbrev pub value6 : Row
-value6 = always (placing unreachable (refused 7 0) ∷ building unreachable 1 (refused 7 0) ∷ [])
+value6 = always (placing unreachable (refused 7 0) ∷ building unreachable 1 (refused 7 0) ∷ unreached unreachable 1 ∷ [])
 
 -- 7. "Empty list, B = 1: 22 bytes, start 0 and seed 0."
 abbrev pub value7 : Row

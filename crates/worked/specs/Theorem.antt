@@ -120,7 +120,7 @@ unfolding computed RowHolds first
 row6 limit from upto =
     let legal : outside 1 limitMax limit ≡ false = outside-not 1 limitMax limit from upto in
     let unseeded : leastSeed unreachable limit ≡ none = unreachable-none limit in
-    (rw (legal, unseeded), ((λ room fits. rw (one-group, legal, le-ltb room 55 fits, unseeded)), tt))
+    (rw (legal, unseeded), ((λ room fits. rw (one-group, legal, le-ltb room 55 fits, unseeded)), ((λ s c i. place-never-one s i c), tt)))
 
 row7 : RowHolds value7
 unfolding computed RowHolds first
