@@ -54,20 +54,17 @@ fn refuse(reason: Reason, place: usize) -> BuildAnswer
     BuildAnswer::Refused(Refusal { reason, place })
 }
 
-// Building where the checks 8, 4, 5, 6 and 9 pass: the tags are counted, and ordered by group.
+// Building where the checks 8, 4, 5, 6 and 9 pass: the tags are ordered by group.
 fn build_admitted(tags: &[u32], groups: u32, limit: u32, buffer: &mut [u8]) -> BuildAnswer
     requires { ⌜ Admitted (now tags) groups limit (length (now buffer)) ⌝ }
     ensures answer { λ r. ⌜ buildOutcome r ≡ buildingOf (now (tags .entry)) groups limit (length (now (buffer .entry))) ⌝ }
     ensures bytes { λ _. ⌜ now (buffer .exit) ≡ bufferAfter (now (tags .entry)) groups limit (now (buffer .entry)) ⌝ }
 {
-    let mut counts = [0usize; 512];
-    order::count_members(tags, groups, &mut counts);
-    if let First::At(g) = order::first_large(&counts, groups as usize) {
+    let mut ends = [0usize; order::GROUP_CELLS];
+    let mut ordered = [0u32; order::TAG_CELLS];
+    if let First::At(g) = order::order_by_group(tags, groups, &mut ends, &mut ordered) {
         return refuse(Reason::GroupTooLarge, g);
     }
-    let mut ends = [0usize; 512];
-    let mut ordered = [0u32; 4096];
-    order::order_tags(tags, groups, &counts, &mut ends, &mut ordered);
     build_ordered(tags, groups, limit, &ordered, &ends, buffer)
 }
 
