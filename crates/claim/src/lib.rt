@@ -1,4 +1,6 @@
 // Condition 3 of the two real functions: building, and then lookup in what building wrote.
+mod worked;
+
 use build::BuildAnswer;
 use lookup::LookupAnswer;
 ghost use mathlib.Core.Path.{_≡_};

@@ -3,3 +3,4 @@ pub mod GroupLaws
 pub mod Ascending
 pub mod AscendingLaws
 pub mod Placing
+pub mod Examples

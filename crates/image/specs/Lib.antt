@@ -7,3 +7,4 @@ pub mod LinesRead
 pub mod FaultLaws
 pub mod CheckedLookup
 pub mod LookupLaws
+pub mod Examples

@@ -1,4 +1,6 @@
 // The operation "placing a group": the least seed that some choice sequence fills, and the least such sequence.
+mod worked;
+
 use refusal::First;
 use refusal::Reason;
 use refusal::Refusal;

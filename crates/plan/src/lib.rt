@@ -1,4 +1,6 @@
 // The plan of an image: the seed and the choice word of every group, found before anything is written.
+mod worked;
+
 use placing::PlacingAnswer;
 use refusal::First;
 ghost use mathlib.Core.Path.{_≡_};

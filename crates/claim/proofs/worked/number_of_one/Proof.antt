@@ -1,0 +1,87 @@
+-- `claim::worked::number_of_one` meets its contract: by the promise of `build_then_look_up` the answer is what the definition
+-- computes to. Assumes nothing.
+use borrow.Author.Needs.{needs}
+use mathlib.Core.Path.{_≡_, refl, _∙_}
+use mathlib.Core.List.{[], _∷_}
+use mathlib.Core.Option.{orElse}
+use Prim.Native.Nat.{ℕ}
+use native.Mathlib.Omega.{arith}
+use Rattle.refusal.specs.Limits.{outside}
+use Rattle.refusal.specs.Outcome.{Outcome, answered, refused, followedBy}
+use Rattle.refusal.specs.First.{first, metAt, isSome}
+use Rattle.refusal.specs.Checks.{met, inOrder}
+use Rattle.hash.specs.Formula.{product, highPart, hashed, groupOf, multiplier, placeOf}
+use Rattle.filling.specs.Places.{occurs}
+use Rattle.filling.specs.Filling.{placeBy}
+use Rattle.filling.specs.Least.{beginning, leastFrom, least, feasible}
+use Rattle.filling.specs.Word.{choiceNumber}
+use Rattle.group.specs.Group.{bothPlaces, candidates, leastSeed, taken}
+use Rattle.group.specs.Ascending.{limitCheck, notAbove, ascendingCheck}
+use Rattle.image.specs.Sheet.{imageLength}
+use Rattle.image.specs.Lookup.{Found, number, unknown}
+use Rattle.building.specs.Members.{select, members, startOf}
+use Rattle.building.specs.Number.{choiceOf, placeIn, numberOf}
+use Rattle.building.specs.Building.{seedTaken, choicesTaken, buildingChecks, buildingOf}
+use Rattle.claim.specs.Claim.{foundIn, claimOf}
+use Rattle.claim.proofs.worked.number_of_one.Statement.{statement}
+use Rattle.claim.proofs.worked.number_of_one.Tie as tie
+
+computed : claimOf (1 ∷ 2 ∷ []) 1 1 44 1 ≡ answered (number 1)
+unfolding orElse outside followedBy first metAt isSome met inOrder product highPart hashed groupOf multiplier placeOf occurs placeBy beginning leastFrom least feasible choiceNumber bothPlaces candidates leastSeed taken limitCheck notAbove ascendingCheck imageLength select members startOf choiceOf placeIn numberOf seedTaken choicesTaken buildingChecks buildingOf foundIn claimOf
+computed = refl
+
+same : {j : ℕ} → answered (number j) ≡ answered (number 1) → j ≡ 1
+same e = cc
+
+not-unknown : answered unknown ≡ answered (number 1) → ⊥
+not-unknown e = let z : _≡_ {A = ℕ} 0 1 = cc in omega arith
+
+not-refused : {reason place : ℕ} → refused reason place ≡ answered (number 1) → ⊥
+not-refused e = let z : _≡_ {A = ℕ} 0 1 = cc in omega arith
+
+slice-aggregate-build-then-look-up : tie.Need-slice-aggregate-build-then-look-up
+slice-aggregate-build-then-look-up c = search needs
+
+slice-aggregate-build-then-look-up-2 : tie.Need-slice-aggregate-build-then-look-up-2
+slice-aggregate-build-then-look-up-2 c = search needs
+
+build-then-look-up-requires : tie.Need-build-then-look-up-requires
+build-then-look-up-requires c κs = search needs
+
+enum-known-j : tie.Need-enum-known-j
+enum-known-j c = search needs
+
+enum-told : tie.Need-enum-told
+enum-told c = search needs
+
+enum-told-2 : tie.Need-enum-told-2
+enum-told-2 c = search needs
+
+returns : tie.Need-returns
+returns c =
+    let promised = rw (c .before .j .given .1) at (c .before .before .before .before .build-then-look-up .ensures .0) in
+    same (promised ∙ computed)
+
+returns-2 : tie.Need-returns-2
+returns-2 c =
+    let promised = rw (c .enum-told .given .1) at (c .before .before .before .build-then-look-up .ensures .0) in
+    absurd (not-unknown (promised ∙ computed))
+
+returns-3 : tie.Need-returns-3
+returns-3 c =
+    let promised = rw (c .enum-told2 .given .1) at (c .before .before .before .build-then-look-up .ensures .0) in
+    absurd (not-refused (promised ∙ computed))
+
+pub number-of-one-spec : {M : Type 1} → statement M
+number-of-one-spec =
+    tie.close
+    (tie.spec
+    slice-aggregate-build-then-look-up
+    slice-aggregate-build-then-look-up-2
+    build-then-look-up-requires
+    enum-known-j
+    enum-told
+    enum-told-2
+    returns
+    returns-2
+    returns-3)

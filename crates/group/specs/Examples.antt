@@ -1,0 +1,43 @@
+-- The order of placing's refusals, each where the next one is due too, by computation. Assumes nothing.
+use mathlib.Core.Path.{_≡_, refl}
+use mathlib.Core.List.{List, [], _∷_}
+use mathlib.Core.Option.{orElse}
+use Prim.Native.Nat.{ℕ}
+use lib.ListN.{replicate}
+use Rattle.refusal.specs.Limits.{outside}
+use Rattle.refusal.specs.Outcome.{refused}
+use Rattle.refusal.specs.First.{first, metAt, isSome}
+use Rattle.refusal.specs.Checks.{met, inOrder}
+use Rattle.hash.specs.Formula.{product, highPart, hashed, multiplier, placeOf}
+use Rattle.filling.specs.Places.{occurs}
+use Rattle.filling.specs.Filling.{placeBy}
+use Rattle.filling.specs.Least.{beginning, leastFrom, least, feasible}
+use Rattle.group.specs.Group.{bothPlaces, candidates, leastSeed}
+use Rattle.group.specs.Ascending.{limitCheck, notAbove, ascendingCheck}
+use Rattle.group.specs.Placing.{placingChecks, placingOf}
+
+-- `unfolding computed` opens every definition that these compute through.
+computed : ℕ
+unfolding orElse outside first metAt isSome met inOrder product highPart hashed multiplier placeOf occurs placeBy beginning leastFrom least feasible bothPlaces candidates leastSeed limitCheck notAbove ascendingCheck placingChecks placingOf
+computed = 0
+
+-- One tag 25 times, which is too many tags, not ascending, and has no seed.
+abbrev twentyFive : List ℕ
+twentyFive = replicate 25 7
+
+four-before-five : placingOf twentyFive 0 ≡ refused 4 0
+unfolding computed
+four-before-five = refl
+
+five-before-six : placingOf twentyFive 1 ≡ refused 5 0
+unfolding computed
+five-before-six = refl
+
+-- The tags 3 and 1: no seed below 1 serves them either.
+six-before-seven : placingOf (3 ∷ 1 ∷ []) 1 ≡ refused 6 1
+unfolding computed
+six-before-seven = refl
+
+seven-last : placingOf (1 ∷ 3 ∷ []) 1 ≡ refused 7 0
+unfolding computed
+seven-last = refl

@@ -1,0 +1,126 @@
+-- `plan::worked::plan_of_one_and_three` meets its contract: by the promise of `plan_groups` the cells have what the definition
+-- computes to. Assumes nothing.
+use borrow.Author.Needs.{needs}
+use mathlib.Core.Path.{_≡_, refl, _∙_, ap}
+use mathlib.Core.List.{List, [], _∷_}
+use mathlib.Core.Option.{Option, none, orElse, Option·getD}
+use native.Mathlib.Omega.{arith}
+use Prim.Native.Nat.{ℕ, zero, suc, _≤_, _<_}
+use lib.ListN.{length, getD, replicate}
+use Rattle.refusal.specs.Limits.{groupsMax, groupMax}
+use Rattle.refusal.specs.First.{first, metAt, isSome}
+use Rattle.hash.specs.Formula.{product, highPart, hashed, multiplier, placeOf}
+use Rattle.filling.specs.Places.{occurs}
+use Rattle.filling.specs.Filling.{placeBy}
+use Rattle.filling.specs.Least.{beginning, leastFrom, least, feasible}
+use Rattle.filling.specs.Word.{choiceNumber, wordOf}
+use Rattle.group.specs.Group.{bothPlaces, candidates, leastSeed, taken}
+use Rattle.group.specs.AscendingLaws.{Ascending}
+use Rattle.group.specs.Placing.{placementOf}
+use Rattle.building.specs.Parts.{partStart, partOf, Parts}
+use Rattle.plan.specs.Plan.{unseeded, partSeed, partWord, cellsPlanned, Plannable}
+use Rattle.plan.specs.PlanLaws.{planned-at}
+use Rattle.plan.proofs.worked.plan_of_one_and_three.Statement.{statement}
+use Rattle.plan.proofs.worked.plan_of_one_and_three.Tie as tie
+
+-- The tags and where their part ends.
+abbrev tags : List ℕ
+tags = 1 ∷ 3 ∷ []
+
+abbrev ends : List ℕ
+ends = 2 ∷ []
+
+plannable : Plannable 1 tags ends 2
+unfolding partStart partOf
+plannable = record {
+  parts = record { known = omega arith; follow = follow; inside = inside };
+  limit-legal = (omega arith, omega arith);
+  few = few;
+  ascending = ascending;
+}
+  where
+    follow : (g : ℕ) → g < 1 → partStart ends g ≤ getD ends g 0
+    follow zero lt = omega arith
+    follow (suc g) lt = absurd (omega arith)
+
+    inside : (g : ℕ) → g < 1 → getD ends g 0 ≤ length tags
+    inside zero lt = omega arith
+    inside (suc g) lt = absurd (omega arith)
+
+    few : (g : ℕ) → g < 1 → length (partOf tags ends g) ≤ groupMax
+    few zero lt = omega arith
+    few (suc g) lt = absurd (omega arith)
+
+    ascending : (g : ℕ) → g < 1 → Ascending (partOf tags ends g)
+    ascending zero lt zero within = omega arith
+    ascending zero lt (suc i) within = absurd (omega arith)
+    ascending (suc g) lt i within = absurd (omega arith)
+
+-- `unfolding computed` opens every definition that these compute through.
+computed : ℕ
+unfolding orElse first metAt isSome product highPart hashed multiplier placeOf occurs placeBy beginning leastFrom least feasible choiceNumber wordOf bothPlaces candidates leastSeed taken placementOf partStart partOf unseeded partSeed partWord
+computed = 0
+
+no-group-without : first (unseeded tags ends 2) 1 ≡ none
+unfolding computed
+no-group-without = refl
+
+seed-is : partSeed tags ends 2 0 ≡ 1
+unfolding computed
+seed-is = refl
+
+word-is : partWord tags ends 2 0 ≡ 2
+unfolding computed
+word-is = refl
+
+-- The first cell of the planned ones, where no group is without a seed.
+first-cell : (number : ℕ → ℕ) (before : List ℕ) {cells : List ℕ} {o : Option ℕ} → o ≡ first (unseeded tags ends 2) 1
+    → cells ≡ cellsPlanned number (Option·getD o 1) before → getD cells 0 0 ≡ number 0
+first-cell number before told planned =
+    ap (λ (l : List ℕ). getD l 0 0) planned
+    ∙ rw (told, no-group-without) (planned-at number 1 before 0 (omega arith))
+
+-- What the promise says of the two cells.
+promised : (before : List ℕ) {o : Option ℕ} {seeds words : List ℕ}
+    → (o ≡ first (unseeded tags ends 2) 1)
+    × ((seeds ≡ cellsPlanned (partSeed tags ends 2) (Option·getD o 1) before) × (words ≡ cellsPlanned (partWord tags ends 2) (Option·getD o 1) before))
+    → (getD seeds 0 0 ≡ 1) × (getD words 0 0 ≡ 2)
+promised before (told, (seeds, words)) =
+    (first-cell (partSeed tags ends 2) before told seeds ∙ seed-is, first-cell (partWord tags ends 2) before told words ∙ word-is)
+
+slice-aggregate-plan-groups : tie.Need-slice-aggregate-plan-groups
+slice-aggregate-plan-groups c = search needs
+
+slice-aggregate-plan-groups-2 : tie.Need-slice-aggregate-plan-groups-2
+slice-aggregate-plan-groups-2 c = search needs
+
+plan-groups-requires : tie.Need-plan-groups-requires
+plan-groups-requires c κs = (plannable, omega arith, refl, refl)
+
+array-read-result : tie.Need-array-read-result
+array-read-result c = search needs
+
+mul-result : tie.Need-mul-result
+mul-result c = omega (arith, promised (replicate groupsMax 0) (c .plan-groups .ensures))
+
+array-read-result-2 : tie.Need-array-read-result-2
+array-read-result-2 c = search needs
+
+add-result : tie.Need-add-result
+add-result c = omega (arith, promised (replicate groupsMax 0) (c .plan-groups .ensures))
+
+returns : tie.Need-returns
+returns c = omega (arith, promised (replicate groupsMax 0) (c .plan-groups .ensures))
+
+pub plan-of-one-and-three-spec : {M : Type 1} → statement M
+plan-of-one-and-three-spec =
+    tie.close
+    (tie.spec
+    slice-aggregate-plan-groups
+    slice-aggregate-plan-groups-2
+    plan-groups-requires
+    array-read-result
+    mul-result
+    array-read-result-2
+    add-result
+    returns)
