@@ -3,6 +3,7 @@ use mathlib.Core.Path.{_≡_, refl, _∙_, ap}
 use mathlib.Core.List.{List, [], _∷_, _++_, flatten, append-nil}
 use mathlib.Core.Option.{some}
 use Prim.Native.Nat.{ℕ, zero, suc, _+_, _*_, _^_, _≤_, _<_}
+use native.Mathlib.Nat.{zero-add, suc-add}
 use native.Mathlib.Omega.{arith}
 use lib.ListN.{length, getD, length-append, List·getD-append}
 use lib.Seq.{getD-append-add}
@@ -28,6 +29,12 @@ pub upTo-more : {A : Type 0} (count : ℕ) (f : ℕ → A) → upTo (suc count) 
 unfolding upTo
 upTo-more zero f = refl
 upTo-more (suc count) f = ap (λ xs. f 0 ∷ xs) (upTo-more count (λ k. f (suc k)))
+
+-- One count after another.
+pub upTo-append : {A : Type 0} (count more : ℕ) (f : ℕ → A) → upTo (count + more) f ≡ upTo count f ++ upTo more (λ k. f (count + k))
+unfolding upTo
+upTo-append zero more f = simp zero-add
+upTo-append (suc count) more f = simp suc-add (ap (λ xs. f 0 ∷ xs) (upTo-append count more (λ k. f (suc k))))
 
 pub flatten-more : (count : ℕ) (f : ℕ → List ℕ) → flatten (upTo (suc count) f) ≡ flatten (upTo count f) ++ f count
 unfolding flatten

@@ -1,16 +1,18 @@
--- The bytes of a sheet, part by part, and sheets that agree. Assumes nothing.
-use Prim.Native.Nat.{ℕ, zero, suc, _≤_, _<_}
-use mathlib.Core.Path.{_≡_, sym}
-use mathlib.Core.List.{List, _++_, flatten, append-assoc}
+-- The lines that arrays state, and sheets that agree. Assumes nothing.
+use Prim.Native.Nat.{ℕ, zero, suc, _+_, _-_, _≤_, _<_}
+use mathlib.Core.Path.{_≡_, refl, _∙_, ap}
+use mathlib.Core.Bool.{Bool, true, false, cond}
+use mathlib.Core.List.{List, _++_, flatten}
 use native.Mathlib.Omega.{arith}
+use lib.Dec.{ltb}
 use lib.ListN.{length, getD}
-use Rattle.refusal.specs.Limits.{tagsMax}
-use Rattle.text.specs.Line.{lineLength, pairLine}
-use Rattle.text.specs.LineLaws.{pairLine-length, tagLine-length, flatten-append}
+use borrow.Author.Tests.{lt-ltb, le-ltb}
+use Rattle.text.specs.Line.{lineLength, pairLine, tagLine}
+use Rattle.text.specs.LineLaws.{pairLine-length, tagLine-length}
 use Rattle.image.specs.Sheet.{upTo, Sheet, groupLineOf, slotLineOf, linesOf, bytesOf}
-use Rattle.image.specs.SheetLaws.{upTo-agree}
+use Rattle.image.specs.SheetLaws.{upTo-append, upTo-agree}
 use Rattle.building.specs.Parts.{partStart}
-use Rattle.write.specs.Stated.{statedSheet, statedGroupLine, statedSlotLine, EndsSmall}
+use Rattle.write.specs.Stated.{statedSheet, statedLine}
 
 -- Two sheets state the same numbers: the same N and B, for each group the same start and seed, and for each slot the same tag.
 pub record Agree (s t : Sheet) : Type 0 where
@@ -31,26 +33,52 @@ bytes-agree s t a =
       a .groups,
     )
 
--- The bytes of the stated sheet: line 0, the group lines, the slot lines.
-pub stated-bytes : (ends seeds slots : List ℕ) (groups count : ℕ) → bytesOf (statedSheet ends seeds slots groups count)
-    ≡ (pairLine count groups ++ flatten (upTo groups (statedGroupLine ends seeds))) ++ flatten (upTo count (statedSlotLine slots))
-unfolding bytesOf linesOf statedSheet flatten statedGroupLine statedSlotLine
-stated-bytes ends seeds slots groups count =
-    let groupLines = upTo groups (statedGroupLine ends seeds) in
-    let slotLines = upTo count (statedSlotLine slots) in
-    rw (flatten-append groupLines slotLines) (sym (append-assoc (pairLine count groups) (flatten groupLines) (flatten slotLines)))
+module _ (ends seeds slots : List ℕ) (groups count : ℕ) where
+  abbrev line : ℕ → List ℕ
+  line = statedLine ends seeds slots groups count
 
--- Each line has the length of a line.
-pub group-line-length : (ends seeds : List ℕ) (g : ℕ) → length (statedGroupLine ends seeds g) ≡ lineLength
-unfolding statedGroupLine
-group-line-length ends seeds g = pairLine-length (partStart ends g) (getD seeds g 0)
+  -- Each line has the length of a line.
+  pub line-length : (k : ℕ) → length (line k) ≡ lineLength
+  unfolding statedLine
+  line-length zero = pairLine-length count groups
+  line-length (suc g) = go (ltb g groups)
+    where
+      go : (b : Bool) → length (cond b (pairLine (partStart ends g) (getD seeds g 0)) (tagLine (getD slots (g - groups) 0))) ≡ lineLength
+      go true = pairLine-length (partStart ends g) (getD seeds g 0)
+      go false = tagLine-length (getD slots (g - groups) 0)
 
-pub slot-line-length : (slots : List ℕ) (j : ℕ) → length (statedSlotLine slots j) ≡ lineLength
-unfolding statedSlotLine
-slot-line-length slots j = tagLine-length (getD slots j 0)
+  -- A group's line, and a slot's.
+  pub line-group : (g : ℕ) → g < groups → line (suc g) ≡ pairLine (partStart ends g) (getD seeds g 0)
+  unfolding statedLine
+  line-group g lt = rw (lt-ltb g groups lt)
 
--- Where a group begins is no greater than the greatest number of tags.
-pub start-small : (ends : List ℕ) {groups : ℕ} → EndsSmall ends groups → (g : ℕ) → g ≤ groups → partStart ends g ≤ tagsMax
+  pub line-slot : (g : ℕ) → groups ≤ g → line (suc g) ≡ tagLine (getD slots (g - groups) 0)
+  unfolding statedLine
+  line-slot g le = rw (le-ltb g groups le)
+
+  -- All of them one behind the other are the bytes of the image.
+  later-lines : upTo (groups + count) (λ k. line (suc k))
+      ≡ upTo groups (λ g. pairLine (partStart ends g) (getD seeds g 0)) ++ upTo count (λ j. tagLine (getD slots j 0))
+  later-lines =
+      upTo-append groups count (λ k. line (suc k))
+      ∙ rw (
+        upTo-agree groups (λ g. line (suc g)) (λ g. pairLine (partStart ends g) (getD seeds g 0)) line-group,
+        upTo-agree count (λ j. line (suc (groups + j))) (λ j. tagLine (getD slots j 0)) of-slot,
+      )
+    where
+      of-slot : (j : ℕ) → j < count → line (suc (groups + j)) ≡ tagLine (getD slots j 0)
+      of-slot j lt = let back : groups + j - groups ≡ j = omega arith in line-slot (groups + j) (omega arith) ∙ rw back
+
+  pub stated-bytes : flatten (upTo (1 + groups + count) line) ≡ bytesOf (statedSheet ends seeds slots groups count)
+  unfolding bytesOf linesOf upTo statedSheet statedLine
+  stated-bytes = let e : 1 + groups + count ≡ suc (groups + count) = omega arith in ap flatten (rw (e, later-lines))
+
+-- Where a group begins: the first at 0, a later one where the group before it ends.
+pub start-first : (ends : List ℕ) {g : ℕ} → g ≡ 0 → 0 ≡ partStart ends g
 unfolding partStart
-start-small ends small zero le = omega arith
-start-small ends small (suc g) le = small g (omega arith)
+start-first ends e = rw e
+
+pub start-later : (ends : List ℕ) (g : ℕ) → (g ≡ 0 → ⊥) → getD ends (g - 1) 0 ≡ partStart ends g
+unfolding partStart
+start-later ends zero some = absurd (some refl)
+start-later ends (suc g) some = let e : suc g - 1 ≡ g = omega arith in rw e

@@ -1,11 +1,12 @@
 // The image of tags that are ordered by group, under given seeds: line 0, the group lines, the slot lines.
 ghost use mathlib.Core.Path.{_≡_};
-ghost use mathlib.Core.List.{_++_, flatten};
-ghost use Prim.Native.Nat.{_+_, _*_, _≤_};
+ghost use mathlib.Core.List.{_++_};
+ghost use Prim.Native.Nat.{_+_, _*_, _≤_, _<_};
 ghost use lib.ListN.{length, drop};
 ghost use Rattle.text.specs.Line.{lineLength};
-ghost use Rattle.image.specs.Sheet.{upTo, bytesOf, imageLength};
-ghost use Rattle.write.specs.Stated.{statedSheet, statedGroupLine, statedSlotLine, GroupsWritable, Writable};
+ghost use Rattle.image.specs.Sheet.{bytesOf, imageLength};
+ghost use Rattle.building.specs.Parts.{partStart};
+ghost use Rattle.write.specs.Stated.{statedSheet, statedLine, EndsSmall, Writable};
 ghost use Rattle.write.specs.Planned.{plannedSheet, Planned};
 ghost use Rattle.write.specs.Written.{writtenAt};
 
@@ -33,8 +34,7 @@ pub fn write_image(
     write_lines(ends, seeds, &slots, groups, count, buffer);
 }
 
-// Writes the image that the arrays state: line 0, the group lines, the slot lines; the bytes after it stay. Group g begins where the
-// group before it ends.
+// Writes the image that the arrays state, line after line; the bytes after it stay.
 pub fn write_lines(
     ends: &[usize],
     seeds: &[u32],
@@ -48,35 +48,48 @@ pub fn write_lines(
         ≡ bytesOf (statedSheet (now (ends .entry)) (now (seeds .entry)) (now (slots .entry)) groups count)
         ++ drop (imageLength groups count) (now (buffer .entry)) ⌝ }
 {
-    text::write_pair_line(buffer, 0, count as u32, groups as u32);
-    write_group_lines(ends, seeds, groups, LINE_LENGTH, buffer);
-    write_slot_lines(slots, count, LINE_LENGTH * (1 + groups), buffer);
-}
-
-// Writes the lines of the groups from a byte on; the bytes before and after them stay.
-fn write_group_lines(ends: &[usize], seeds: &[u32], groups: usize, at: usize, buffer: &mut [u8])
-    requires { ⌜ GroupsWritable (now ends) (now seeds) groups at (length (now buffer)) ⌝ }
-    ensures bytes { λ _. ⌜ now (buffer .exit)
-        ≡ writtenAt at (flatten (upTo groups (statedGroupLine (now (ends .entry)) (now (seeds .entry))))) (now (buffer .entry)) ⌝ }
-{
-    let mut start = 0;
-    let mut g = 0;
-    while g < groups {
-        text::write_pair_line(buffer, at + LINE_LENGTH * g, start as u32, seeds[g]);
-        start = ends[g];
-        g += 1;
+    let lines = 1 + groups + count;
+    let mut k = 0;
+    while k < lines {
+        write_line(ends, seeds, slots, groups, count, k, buffer);
+        k += 1;
     }
 }
 
-// Writes the lines of the slots from a byte on; the bytes before and after them stay.
-fn write_slot_lines(slots: &[u32], count: usize, at: usize, buffer: &mut [u8])
-    requires { ⌜ (count ≤ length (now slots)) × (at + lineLength * count ≤ length (now buffer)) ⌝ }
-    ensures bytes { λ _. ⌜ now (buffer .exit)
-        ≡ writtenAt at (flatten (upTo count (statedSlotLine (now (slots .entry))))) (now (buffer .entry)) ⌝ }
+// Writes line k of the image that the arrays state: line 0, a group's line or a slot's. The other bytes stay.
+fn write_line(
+    ends: &[usize],
+    seeds: &[u32],
+    slots: &[u32],
+    groups: usize,
+    count: usize,
+    k: usize,
+    buffer: &mut [u8],
+)
+    requires { ⌜ Writable (now ends) (now seeds) (now slots) groups count (length (now buffer)) × (k < 1 + groups + count) ⌝ }
+    ensures bytes { λ _. ⌜ now (buffer .exit) ≡ writtenAt (lineLength * k)
+        (statedLine (now (ends .entry)) (now (seeds .entry)) (now (slots .entry)) groups count k) (now (buffer .entry)) ⌝ }
 {
-    let mut j = 0;
-    while j < count {
-        text::write_tag_line(buffer, at + LINE_LENGTH * j, slots[j]);
-        j += 1;
+    let at = LINE_LENGTH * k;
+    if k == 0 {
+        text::write_pair_line(buffer, at, count as u32, groups as u32);
+        return;
     }
+    let g = k - 1;
+    if g < groups {
+        text::write_pair_line(buffer, at, start_of(ends, g), seeds[g]);
+        return;
+    }
+    text::write_tag_line(buffer, at, slots[g - groups]);
+}
+
+// Where group g begins: where the group before it ends.
+fn start_of(ends: &[usize], g: usize) -> u32
+    requires { ⌜ (g ≤ length (now ends)) × EndsSmall (now ends) g ⌝ }
+    ensures answer { λ r. ⌜ r ≡ partStart (now (ends .entry)) g ⌝ }
+{
+    if g == 0 {
+        return 0;
+    }
+    ends[g - 1] as u32
 }

@@ -1,67 +1,67 @@
--- `write::write_lines` meets its contract: line 0, the group lines and the slot lines, each written behind the last, are the image.
--- Assumes nothing.
+-- `write::write_lines` meets its contract: after k turns the first k lines are written. Assumes nothing.
 use borrow.Author.Needs.{needs}
-use native.Mathlib.Omega.{arith}
-use Rattle.image.specs.Sheet.{imageLength}
-use Rattle.write.proofs.Lines.{image-written}
+use Prim.Native.Nat.{_+_, _-_}
+use Rattle.write.proofs.Lines.{LinesWritten, lines-start, lines-kept, lines-room, lines-turn, lines-done}
 use Rattle.write.proofs.write_lines.Statement.{statement}
 use Rattle.write.proofs.write_lines.Tie as tie
 
-cast-write-pair-line : tie.Need-cast-write-pair-line
-cast-write-pair-line c = search needs
+abbrev Inv-loop : tie.InvT-loop
+Inv-loop ends seeds slots groups count buffer₀ lines k₀ buffer k = LinesWritten ends seeds slots groups count buffer₀ buffer k
 
-cast-write-pair-line-2 : tie.Need-cast-write-pair-line-2
-cast-write-pair-line-2 c = search needs
+abbrev μ-loop : tie.MeasureT-loop
+μ-loop ends seeds slots groups count buffer₀ lines k₀ buffer k = 1 + groups + count - k
 
-write-pair-line-requires : tie.Need-write-pair-line-requires
-unfolding imageLength
-write-pair-line-requires c κs =
-    let room = c .before .before .before .before .before .pre .room-enough in
-    omega arith
+add-lines : tie.Need-add-lines Inv-loop μ-loop
+add-lines c = search needs
 
-write-group-lines-requires : tie.Need-write-group-lines-requires
-unfolding imageLength
-write-group-lines-requires c κs =
-    let pre = c .before .before .before .before .before .before .before .before .before .pre in
-    record {
-      ends-known = pre .ends-known;
-      seeds-known = pre .seeds-known;
-      ends-small = pre .ends-small;
-      room-enough = omega (arith, pre .room-enough);
-    }
+add-lines-2 : tie.Need-add-lines-2 Inv-loop μ-loop
+add-lines-2 c = search needs
 
-add-write-slot-lines : tie.Need-add-write-slot-lines
-add-write-slot-lines c = search needs
+loop-holds : tie.Need-loop-holds Inv-loop μ-loop
+loop-holds c = lines-start _ _ _ _ _ (c .before .before .before .before .pre)
 
-mul-write-slot-lines : tie.Need-mul-write-slot-lines
-mul-write-slot-lines c = search needs
+write-line-requires : tie.Need-write-line-requires Inv-loop μ-loop
+write-line-requires c κs =
+    let loop = c .before .before in
+    let start = loop .before .before .before .before .before in
+    (lines-room _ _ _ _ _ (start .pre) (loop .loop .inv), c .before .loop-test .taken)
 
-write-slot-lines-requires : tie.Need-write-slot-lines-requires
-unfolding imageLength
-write-slot-lines-requires c κs =
-    let pre = c .before .before .before .before .before .before .before .before .before .before .before .before .before .pre in
-    (pre .slots-known, omega (arith, pre .room-enough))
+add-k : tie.Need-add-k Inv-loop μ-loop
+add-k c = search needs
 
-same-length : tie.Need-same-length
-same-length c = search needs
+loop-less : tie.Need-loop-less Inv-loop μ-loop
+loop-less c = search needs
 
-returns : tie.Need-returns
+loop-again : tie.Need-loop-again Inv-loop μ-loop
+loop-again c =
+    let written = c .before .before in
+    let turn = written .before .before in
+    let loop = turn .before in
+    let start = loop .before .before .before .before .before in
+    lines-turn _ _ _ _ _ (start .pre) (loop .loop .inv) (turn .loop-test .taken) (written .write-line .ensures)
+
+same-length : tie.Need-same-length Inv-loop μ-loop
+same-length c =
+    let loop = c .before in
+    lines-kept _ _ _ _ _ (loop .before .before .before .before .before .pre) (loop .loop .inv)
+
+returns : tie.Need-returns Inv-loop μ-loop
 returns c =
-    image-written _ _ _ _ _ _ _ _ _
-    (c .before .before .before .before .before .before .before .before .before .before .write-pair-line .ensures)
-    (c .before .before .before .before .before .before .write-group-lines .ensures)
-    (c .before .before .write-slot-lines .ensures)
+    let loop = c .before in
+    lines-done _ _ _ _ _ (loop .before .before .before .before .before .pre) (loop .loop .inv) (c .loop-test .left)
 
 pub write-lines-spec : {M : Type 1} → statement M
 write-lines-spec =
     tie.close
     (tie.spec
-    cast-write-pair-line
-    cast-write-pair-line-2
-    write-pair-line-requires
-    write-group-lines-requires
-    add-write-slot-lines
-    mul-write-slot-lines
-    write-slot-lines-requires
+    Inv-loop
+    μ-loop
+    add-lines
+    add-lines-2
+    loop-holds
+    write-line-requires
+    add-k
+    loop-less
+    loop-again
     same-length
     returns)
