@@ -110,7 +110,7 @@ abbrev pub ownSlot : View → ℕ → ℕ → ℕ
 ownSlot v c t = candidateIn v (ownGroup v t) c t
 
 -- A slot that is not misplaced holds a tag of its group, at one of the tag's places.
-placed-own : (v : View) (j t : ℕ) → slotIn v j ≡ t → misplaced v j ≡ false
+pub placed-own : (v : View) (j t : ℕ) → slotIn v j ≡ t → misplaced v j ≡ false
     → (ownGroup v t ≡ groupOfSlot v j) × ((j ≡ candidateIn v (groupOfSlot v j) 0 t) ⊎ (j ≡ candidateIn v (groupOfSlot v j) 1 t))
 unfolding misplaced
 placed-own v j t e placed =
