@@ -6,3 +6,4 @@ pub mod Lookup
 pub mod FaultLaws
 pub mod CheckedLookup
 pub mod LookupLaws
+pub mod SameNumbersLaws

@@ -18,12 +18,16 @@ cellsView starts seeds tags groups = record {
   slotAt = λ k. some (getD tags (k - (1 + groups)) 0);
 }
 
--- The numbers of the groups are in their ranges, and no group is faulty.
-pub record Regular (starts seeds : List ℕ) (groups : ℕ) : Type 0 where
+-- The numbers of the groups are in their ranges.
+pub record Legal (starts seeds : List ℕ) (groups : ℕ) : Type 0 where
   pub groups-some : 1 ≤ groups
   pub groups-legal : groups ≤ groupsMax
   pub count-legal : getD starts groups 0 ≤ tagsMax
   pub seeds-legal : (g : ℕ) → g < groups → getD seeds g 0 ≤ seedMax
+
+-- And no group is faulty.
+pub record Regular (starts seeds : List ℕ) (groups : ℕ) : Type 0 where
+  pub legal : Legal starts seeds groups
   pub fair : (g : ℕ) → g < groups → Fair g (getD starts g 0) (getD starts (g + 1) 0)
 
 -- Slot j lies in group g, and the group's numbers are in their ranges.

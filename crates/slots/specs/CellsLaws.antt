@@ -65,5 +65,5 @@ group-ends starts seeds groups regular g below =
     record {
       ascends = (regular .fair g below) .ascends;
       most = omega (arith, most, cells-end starts seeds [] groups g below, cells-count starts seeds [] groups);
-      legal = regular .count-legal;
+      legal = regular .legal .count-legal;
     }

@@ -1,8 +1,7 @@
 -- What is wrong with the slots before one of them. Assumes nothing.
 use Prim.Native.Nat.{ℕ}
-use mathlib.Core.Path.{_≡_}
 use mathlib.Core.Option.{Option, none, some}
-use Rattle.refusal.specs.First.{first}
+use Rattle.refusal.specs.First.{first, metAt}
 use Rattle.image.specs.View.{View}
 use Rattle.image.specs.Checking.{misplaced, repeated}
 use Rattle.slots.specs.declared.SlotFault.{SlotFault}
@@ -20,11 +19,10 @@ orRepeated (Misplaced i) j = Misplaced i
 orRepeated (Repeated i) j = Repeated i
 orRepeated Nowhere j = Repeated j
 
+-- The fault of slot j.
+unfoldable pub faultAt : View → ℕ → SlotFault
+faultAt v j = faultOf (metAt j (misplaced v j)) (metAt j (repeated v j))
+
 -- The fault of the slots before slot k.
 unfoldable pub faultBefore : View → ℕ → SlotFault
 faultBefore v k = faultOf (first (misplaced v) k) (first (repeated v) k)
-
--- The walk has come to slot k: no slot before it is misplaced, and this is their fault.
-pub record Walked (v : View) (fault : SlotFault) (k : ℕ) : Type 0 where
-  pub placed : first (misplaced v) k ≡ none
-  pub fault-is : fault ≡ faultBefore v k

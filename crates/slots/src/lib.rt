@@ -1,9 +1,11 @@
 // The slots of an image whose numbers are read into cells: the lowest that is misplaced, and the lowest that repeats a tag.
 ghost use mathlib.Core.Path.{_≡_};
-ghost use Prim.Native.Nat.{_+_};
+ghost use mathlib.Core.Option.{none};
 ghost use lib.ListN.{getD};
+ghost use Rattle.refusal.specs.First.{first};
+ghost use Rattle.image.specs.Checking.{misplaced};
 ghost use Rattle.slots.specs.Cells.{cellsView, Regular, InGroup};
-ghost use Rattle.slots.specs.Fault.{orRepeated, faultBefore, Walked};
+ghost use Rattle.slots.specs.Fault.{orRepeated, faultAt, faultBefore};
 
 // Cells for the start of every group and N behind the last, for the seeds, and for the tags of the slots.
 pub const START_CELLS: usize = refusal::GROUPS_MAX as usize + 1;
@@ -32,36 +34,41 @@ pub fn slot_fault(
 {
     let mut fault = SlotFault::Nowhere;
     let mut g = 0;
+    let mut j = 0;
     while g < groups as usize {
         let end = starts[g + 1] as usize;
-        let mut j = starts[g] as usize;
+        // To the group's end, or to a slot that repeats a tag. What is remembered is changed outside this loop, which is the hot one.
         while j < end {
-            fault = with_slot(starts, seeds, tags, groups, g, j, fault);
-            if let SlotFault::Misplaced(k) = fault {
-                return SlotFault::Misplaced(k);
+            match fault_at(starts, seeds, tags, groups, g, j) {
+                SlotFault::Misplaced(k) => return SlotFault::Misplaced(k),
+                SlotFault::Repeated(_) => break,
+                SlotFault::Nowhere => j += 1,
             }
-            j += 1;
         }
-        g += 1;
+        if j < end {
+            fault = or_repeated(fault, j);
+            j += 1;
+        } else {
+            g += 1;
+        }
     }
     fault
 }
 
-// The fault of the slots up to slot j, which lies in group g, from the fault of the slots before it, of which none is misplaced.
-// A lower slot with the tag can only be the tag's other place.
-fn with_slot(
+// The fault of slot j, which lies in group g, where no lower slot is misplaced. A lower slot with the tag can then only be the tag's
+// other place.
+fn fault_at(
     starts: &[u32; START_CELLS],
     seeds: &[u32; SEED_CELLS],
     tags: &[u32; TAG_CELLS],
     groups: u32,
     g: usize,
     j: usize,
-    before: SlotFault,
 ) -> SlotFault
     requires { ⌜ Regular (now starts) (now seeds) groups ⌝ }
     requires { ⌜ InGroup (now starts) (now seeds) groups g j ⌝ }
-    requires { ⌜ Walked (cellsView (now starts) (now seeds) (now tags) groups) before j ⌝ }
-    ensures answer { λ r. ⌜ r ≡ faultBefore (cellsView (now (starts .entry)) (now (seeds .entry)) (now (tags .entry)) groups) (j + 1) ⌝ }
+    requires { ⌜ first (misplaced (cellsView (now starts) (now seeds) (now tags) groups)) j ≡ none ⌝ }
+    ensures answer { λ r. ⌜ r ≡ faultAt (cellsView (now (starts .entry)) (now (seeds .entry)) (now (tags .entry)) groups) j ⌝ }
 {
     let tag = tags[j];
     let start = starts[g];
@@ -71,18 +78,17 @@ fn with_slot(
     if hash::group_of(groups, tag) as usize != g {
         return SlotFault::Misplaced(j);
     }
-    if j != first {
-        if j != second {
-            return SlotFault::Misplaced(j);
-        }
+    // The product is 0 where the slot is one of the two. Which of them it is cannot be foretold, so there is no branch on it.
+    if (first ^ j) * (second ^ j) != 0 {
+        return SlotFault::Misplaced(j);
     }
     let other = first + second - j;
     if tags[other] == tag {
         if other < j {
-            return or_repeated(before, j);
+            return SlotFault::Repeated(j);
         }
     }
-    before
+    SlotFault::Nowhere
 }
 
 // The fault of the slots before slot j, or where they have none, that slot j repeats a tag.

@@ -4,71 +4,98 @@ use borrow.Author.Needs.{needs}
 use mathlib.Core.Path.{_≡_, refl, sym, _∙_}
 use mathlib.Core.Logic.{⊎-elim}
 use mathlib.Core.List.{List}
-use Prim.Native.Nat.{ℕ, _+_, _-_, _≤_}
+use Prim.Native.Nat.{ℕ, _+_, _-_, _≤_, _<_}
 use native.Mathlib.Omega.{arith}
 use lib.ListN.{getD}
 use Rattle.image.specs.View.{View}
 use Rattle.slots.specs.declared.SlotFault.{SlotFault}
 use Rattle.slots.specs.Cells.{cellsView}
 use Rattle.slots.specs.CellsLaws.{Ends, group-ends}
-use Rattle.slots.specs.Fault.{Walked}
-use Rattle.slots.specs.FaultLaws.{walk-start, walk-found, walk-on}
+use Rattle.slots.specs.Fault.{orRepeated}
+use Rattle.slots.specs.FaultLaws.{Walked, walk-start, walk-found, walk-repeated, walk-on}
 use Rattle.slots.specs.SlotLaws.{in-group}
 use Rattle.slots.proofs.slot_fault.Statement.{statement}
 use Rattle.slots.proofs.slot_fault.Tie as tie
 use Rattle.slots.proofs.slot_fault.Reads as reads
 use Rattle.slots.proofs.slot_fault.Lts as lts
-use Rattle.slots.proofs.with_slot.Reads as with-slot-reads
+use Rattle.slots.proofs.fault_at.Reads as fault-at-reads
+use Rattle.slots.proofs.or_repeated.Reads as or-repeated-reads
 
--- The walk has come to group g, and in that group to slot j.
-record AtGroup (starts seeds tags : List ℕ) (groups : ℕ) (fault : SlotFault) (g : ℕ) : Type 0 where
+-- The walk has come to slot j, of group g.
+record At (starts seeds tags : List ℕ) (groups : ℕ) (fault : SlotFault) (g j : ℕ) : Type 0 where
   within : g ≤ groups
-  walked : Walked (cellsView starts seeds tags groups) fault (getD starts g 0)
-
-record AtSlot (starts seeds tags : List ℕ) (groups : ℕ) (fault : SlotFault) (g j : ℕ) : Type 0 where
   above : getD starts g 0 ≤ j
-  within : j ≤ getD starts (g + 1) 0
+  upto : g < groups → j ≤ getD starts (g + 1) 0
+  most : j ≤ getD starts groups 0
   walked : Walked (cellsView starts seeds tags groups) fault j
 
 abbrev Inv-loop2 : tie.InvT-loop2
-Inv-loop2 starts seeds tags groups fault₀ g end j₀ fault j = AtSlot starts seeds tags groups fault g j
+Inv-loop2 starts seeds tags groups fault g j₀ end j = (j₀ ≤ j) × At starts seeds tags groups fault g j
 
 abbrev μ-loop2 : tie.MeasureT-loop2
-μ-loop2 starts seeds tags groups fault₀ g end j₀ fault j = end - j
+μ-loop2 starts seeds tags groups fault g j₀ end j = end - j
 
 abbrev Inv-loop : tie.InvT-loop
-Inv-loop starts seeds tags groups fault₀ g₀ fault g = AtGroup starts seeds tags groups fault g
+Inv-loop starts seeds tags groups fault₀ g₀ j₀ fault g j = At starts seeds tags groups fault g j
 
 abbrev μ-loop : tie.MeasureT-loop
-μ-loop starts seeds tags groups fault₀ g₀ fault g = groups - g
+μ-loop starts seeds tags groups fault₀ g₀ j₀ fault g j = groups - g + (getD starts groups 0 - j)
 
--- In a turn for a group, and in a turn for a slot.
+-- At a group, and at a slot of it.
 abbrev Group : Type 0
-Group = lts.In-loop (with-slot-reads.Asked, with-slot-reads.Learnt) reads.Pre reads.Post Inv-loop2 μ-loop2 Inv-loop μ-loop
+Group =
+    lts.In-loop (fault-at-reads.Asked, fault-at-reads.Learnt, or-repeated-reads.Asked, or-repeated-reads.Learnt)
+    reads.Pre reads.Post Inv-loop2 μ-loop2 Inv-loop μ-loop
 
 abbrev Slot : Type 0
-Slot = lts.In-loop2 (with-slot-reads.Asked, with-slot-reads.Learnt) reads.Pre reads.Post Inv-loop2 μ-loop2 Inv-loop μ-loop
-
-abbrev group : Slot → Group
-group c = c .before .before .before .before
+Slot =
+    lts.At-loop2 (fault-at-reads.Asked, fault-at-reads.Learnt, or-repeated-reads.Asked, or-repeated-reads.Learnt)
+    reads.Pre reads.Post Inv-loop2 μ-loop2 Inv-loop μ-loop
 
 abbrev view : Group → View
 view c = let a = c .before .before .args in cellsView (a .starts .now) (a .seeds .now) (a .tags .now) (a .groups)
 
--- The group ends at N or before, and starts at its end or before.
 ends : (c : Group) → Ends (c .before .before .args .starts .now) (c .before .before .args .groups) (c .before .loop .g)
 ends c =
     let start = c .before .before in
     let a = start .args in
     group-ends (a .starts .now) (a .seeds .now) (a .groups) (start .pre) (c .before .loop .g) (c .loop-test .taken)
 
+abbrev group : Slot → Group
+group c = c .before .before
+
+abbrev end : Slot → ℕ
+end c = getD (group c .before .before .args .starts .now) (group c .before .loop .g + 1) 0
+
+-- One slot more of the group.
+abbrev Next : Slot → SlotFault → Type 0
+Next c fault =
+    let a = group c .before .before .args in
+    At (a .starts .now) (a .seeds .now) (a .tags .now) (a .groups) fault (group c .before .loop .g) (c .loop2 .j + 1)
+
+next : (c : Slot) (fault : SlotFault) → c .loop2 .j < end c → Walked (view (group c)) fault (c .loop2 .j + 1) → Next c fault
+next c fault below walked =
+    let at = c .loop2 .inv .1 in
+    let ends = ends (group c) in
+    record {
+      within = at .within;
+      above = omega (arith, at .above);
+      upto = λ lt. omega (arith, below);
+      most = omega (arith, ends .most, below);
+      walked = walked;
+    }
+
 loop-holds : tie.Need-loop-holds Inv-loop2 μ-loop2 Inv-loop μ-loop
 loop-holds c =
     let a = c .args in
-    let first-group : getD (a .starts .now) 0 0 ≡ 0 = (c .pre .fair 0 (omega (arith, c .pre .groups-some))) .zero-first refl in
+    let some = c .pre .legal .groups-some in
+    let zero-first = (c .pre .fair 0 (omega arith)) .zero-first refl in
     record {
       within = omega arith;
-      walked = rw first-group (walk-start (cellsView (a .starts .now) (a .seeds .now) (a .tags .now) (a .groups)));
+      above = omega (arith, zero-first);
+      upto = λ lt. omega arith;
+      most = omega arith;
+      walked = walk-start (cellsView (a .starts .now) (a .seeds .now) (a .tags .now) (a .groups));
     }
 
 add-end : tie.Need-add-end Inv-loop2 μ-loop2 Inv-loop μ-loop
@@ -83,85 +110,110 @@ element-copy-out-end c = search needs
 cast-end : tie.Need-cast-end Inv-loop2 μ-loop2 Inv-loop μ-loop
 cast-end c = record { fits = omega (arith, ends (c .before)) }
 
-mul-j : tie.Need-mul-j Inv-loop2 μ-loop2 Inv-loop μ-loop
-mul-j c = search needs
-
-element-copy-out-j : tie.Need-element-copy-out-j Inv-loop2 μ-loop2 Inv-loop μ-loop
-element-copy-out-j c = search needs
-
-cast-j : tie.Need-cast-j Inv-loop2 μ-loop2 Inv-loop μ-loop
-cast-j c = record { fits = omega (arith, ends (c .before .before)) }
-
 loop2-holds : tie.Need-loop2-holds Inv-loop2 μ-loop2 Inv-loop μ-loop
-loop2-holds c =
-    let turn = c .before .before in
-    record { above = omega arith; within = ends turn .ascends; walked = turn .before .loop .inv .walked }
+loop2-holds c = (omega arith, c .before .before .loop .inv)
 
-with-slot-requires : tie.Need-with-slot-requires Inv-loop2 μ-loop2 Inv-loop μ-loop
-with-slot-requires c κs =
-    let turn = group c in
+fault-at-requires : tie.Need-fault-at-requires Inv-loop2 μ-loop2 Inv-loop μ-loop
+fault-at-requires c κs =
+    let turn = group (c .before) in
     let start = turn .before .before in
     let a = start .args in
-    let inv = c .before .loop2 .inv in (
-      start .pre,
-      (
-        in-group (a .starts .now) (a .seeds .now) (a .groups) (turn .before .loop .g) (c .before .loop2 .j) (start .pre) (turn .loop-test .taken) (inv .above) (c .loop2-test .taken),
-        inv .walked,
-      ),
-    )
+    let at = c .before .loop2 .inv .1 in
+    let inside =
+    in-group (a .starts .now) (a .seeds .now) (a .groups) (turn .before .loop .g) (c .before .loop2 .j) (start .pre) (turn .loop-test .taken) (at .above) (c .loop2-test .taken) in
+    (start .pre, (inside, at .walked .placed))
 
-enum-known-fault : tie.Need-enum-known-fault Inv-loop2 μ-loop2 Inv-loop μ-loop
-enum-known-fault c = search needs
+enum-known-k : tie.Need-enum-known-k Inv-loop2 μ-loop2 Inv-loop μ-loop
+enum-known-k c = search needs
 
 returns : tie.Need-returns Inv-loop2 μ-loop2 Inv-loop μ-loop
 returns c =
     let told = c .before in
-    let added = told .before .before in
-    let turn = added .before in
-    let j = turn .before .loop2 .j in
-    let all = getD (group turn .before .before .args .starts .now) (group turn .before .before .args .groups) 0 in
-    walk-found (view (group turn)) (j + 1) all (omega (arith, ends (group turn), turn .loop2-test .taken))
-    (sym (told .fault .given .1) ∙ added .with-slot .ensures)
+    let found = told .before .before in
+    let slot = found .before .before in
+    let a = group slot .before .before .args in
+    walk-found (view (group slot)) (slot .loop2 .j) (group slot .before .loop .fault) (slot .loop2 .inv .1 .walked) (getD (a .starts .now) (a .groups) 0)
+    (omega (arith, ends (group slot), found .before .loop2-test .taken)) (sym (found .fault-at .ensures) ∙ told .k .given .1)
+
+enum-told : tie.Need-enum-told Inv-loop2 μ-loop2 Inv-loop μ-loop
+enum-told c = search needs
+
+enum-told-2 : tie.Need-enum-told-2 Inv-loop2 μ-loop2 Inv-loop μ-loop
+enum-told-2 c = search needs
 
 add-j : tie.Need-add-j Inv-loop2 μ-loop2 Inv-loop μ-loop
 add-j c =
-    let turn = c .before .before in
-    record { fits = omega (arith, ends (group turn), turn .loop2-test .taken) }
+    let turn = c .before .before .before in
+    record { fits = omega (arith, ends (group (turn .before)), turn .loop2-test .taken) }
 
 loop2-less : tie.Need-loop2-less Inv-loop2 μ-loop2 Inv-loop μ-loop
 loop2-less c = search needs
 
 loop2-again : tie.Need-loop2-again Inv-loop2 μ-loop2 Inv-loop μ-loop
 loop2-again c =
-    let added = c .before in
-    let turn = added .before in
-    let j = turn .before .loop2 .j in
-    record {
-      above = omega (arith, turn .before .loop2 .inv .above);
-      within = omega (arith, turn .loop2-test .taken);
-      walked = walk-on (view (group turn)) (j + 1) (added .with-slot .result)
-          (λ k e. ⊎-elim (λ h. omega (arith, h)) (λ h. omega (arith, h)) (rw e at (c .match .keys2))) (added .with-slot .ensures);
-    }
+    let found = c .before .before in
+    let slot = found .before .before in
+    let fault = group slot .before .loop .fault in
+    let walked =
+    walk-on (view (group slot)) (slot .loop2 .j) fault (slot .loop2 .inv .1 .walked) (sym (found .fault-at .ensures) ∙ c .enum-told2 .given .1) in
+    (omega (arith, slot .loop2 .inv .0), next slot fault (found .before .loop2-test .taken) walked)
+
+or-repeated-requires : tie.Need-or-repeated-requires Inv-loop2 μ-loop2 Inv-loop μ-loop
+or-repeated-requires c κs = search needs
+
+add-j-2 : tie.Need-add-j-2 Inv-loop2 μ-loop2 Inv-loop μ-loop
+add-j-2 c =
+    let left = c .before .before in
+    record { fits = omega (arith, ends (group (left .before)), c .before .if1 .taken) }
+
+loop-less : tie.Need-loop-less Inv-loop2 μ-loop2 Inv-loop μ-loop
+loop-less c =
+    let left = c .before .before in
+    omega (arith, ends (group (left .before)), c .before .if1 .taken, left .before .loop2 .inv .0)
+
+loop-again : tie.Need-loop-again Inv-loop2 μ-loop2 Inv-loop μ-loop
+loop-again c =
+    let slot = c .before .before .before in
+    let below = c .before .if1 .taken in
+    let fault = group slot .before .loop .fault in
+    let repeated : Walked (view (group slot)) (orRepeated fault (slot .loop2 .j)) (slot .loop2 .j + 1) =
+    ⊎-elim (λ w. absurd (omega (arith, w .left, below)))
+    (λ w. walk-repeated (view (group slot)) (slot .loop2 .j) fault (slot .loop2 .inv .1 .walked) (sym (w .1 .ensures) ∙ w .3 .given .1))
+    (c .before .before .loop2-test .came) in
+    rw (c .or-repeated .ensures) (next slot (orRepeated fault (slot .loop2 .j)) below repeated)
 
 add-g : tie.Need-add-g Inv-loop2 μ-loop2 Inv-loop μ-loop
 add-g c = search needs
 
-loop-less : tie.Need-loop-less Inv-loop2 μ-loop2 Inv-loop μ-loop
-loop-less c = search needs
+loop-less-2 : tie.Need-loop-less-2 Inv-loop2 μ-loop2 Inv-loop μ-loop
+loop-less-2 c =
+    let slot = c .before .before in
+    omega (arith, group slot .loop-test .taken, slot .loop2 .inv .0)
 
-loop-again : tie.Need-loop-again Inv-loop2 μ-loop2 Inv-loop μ-loop
-loop-again c =
-    let at = c .before in
-    let turn = at .before .before .before in
-    let inv = at .loop2 .inv in
-    let end : at .loop2 .j ≡ getD (turn .before .before .args .starts .now) (turn .before .loop .g + 1) 0 = omega (arith, inv .within, c .loop2-test .left) in
-    record { within = omega (arith, turn .loop-test .taken); walked = rw end at (inv .walked) }
+loop-again-2 : tie.Need-loop-again-2 Inv-loop2 μ-loop2 Inv-loop μ-loop
+loop-again-2 c =
+    let slot = c .before .before in
+    let turn = group slot in
+    let start = turn .before .before in
+    let a = start .args in
+    let g = turn .before .loop .g in
+    let at = slot .loop2 .inv .1 in
+    let upto = at .upto (turn .loop-test .taken) in
+    record {
+      within = omega (arith, turn .loop-test .taken);
+      above = omega (arith, c .if1 .left);
+      upto = λ more. omega (arith, upto, (group-ends (a .starts .now) (a .seeds .now) (a .groups) (start .pre) (g + 1) more) .ascends);
+      most = at .most;
+      walked = at .walked;
+    }
 
 returns-2 : tie.Need-returns-2 Inv-loop2 μ-loop2 Inv-loop μ-loop
 returns-2 c =
-    let loop = c .before in
-    let end : loop .loop .g ≡ loop .before .args .groups = omega (arith, loop .loop .inv .within, c .loop-test .left) in
-    (rw end at (loop .loop .inv .walked)) .fault-is
+    let at = c .before .loop .inv in
+    let a = c .before .before .args in
+    let last : c .before .loop .g ≡ a .groups = omega (arith, at .within, c .loop-test .left) in
+    let all : c .before .loop .j ≡ getD (a .starts .now) (a .groups) 0 = omega (arith, at .most, rw last at (at .above)) in
+    (rw all at (at .walked)) .fault-is
 
 pub slot-fault-spec : {M : Type 1} → statement M
 slot-fault-spec =
@@ -176,17 +228,20 @@ slot-fault-spec =
     mul-end
     element-copy-out-end
     cast-end
-    mul-j
-    element-copy-out-j
-    cast-j
     loop2-holds
-    with-slot-requires
-    enum-known-fault
+    fault-at-requires
+    enum-known-k
     returns
+    enum-told
+    enum-told-2
     add-j
     loop2-less
     loop2-again
-    add-g
+    or-repeated-requires
+    add-j-2
     loop-less
     loop-again
+    add-g
+    loop-less-2
+    loop-again-2
     returns-2)
