@@ -94,9 +94,10 @@ module _ (image : List ℕ) {count groups : ℕ} (opens : Opens image count grou
   groups-turn g start seed starts seeds below reads stored =
       let legal = opens .groups-legal in
       let line : suc g ≡ 1 + g = omega arith in
+      let v = viewOf image in
       record {
-        start = filled-turn (startIn (viewOf image)) 1 (groupsMax + 1) g start starts (omega arith) (rw (startIn, line, reads)) (stored .start);
-        seed = filled-turn (seedIn (viewOf image)) 1 groupsMax g seed seeds (omega arith) (rw (seedIn, line, reads)) (stored .seed);
+        start = filled-turn (startIn v) 1 (groupsMax + 1) g start starts (omega arith) (rw (startIn, line, reads)) (stored .start);
+        seed = filled-turn (seedIn v) 1 groupsMax g seed seeds (omega arith) (rw (seedIn, line, reads)) (stored .seed);
         end = getD-set-other starts g groups start 0 (λ same. omega arith) ∙ stored .end;
       }
 

@@ -33,7 +33,8 @@ module _ (v w : View) (same : SameNumbers v w) where
           let last = ltb-false (suc g) (groupsIn v) e in
           end-last v g last ∙ same .count ∙ sym (end-last w g (omega (arith, same .groups)))
 
-  pub same-faulty : first (λ g. faulty g (startIn v g) (endIn v g)) (groupsIn v) ≡ first (λ g. faulty g (startIn w g) (endIn w g)) (groupsIn w)
+  pub same-faulty : first (λ g. faulty g (startIn v g) (endIn v g)) (groupsIn v)
+      ≡ first (λ g. faulty g (startIn w g) (endIn w g)) (groupsIn w)
   same-faulty =
       first-cong _ _ (groupsIn v) (λ g below. rw (same .starts g below, same-end g below))
       ∙ ap (first (λ g. faulty g (startIn w g) (endIn w g))) (same .groups)

@@ -14,14 +14,17 @@ use Rattle.checking.proofs.check_cells.Statement.{statement}
 use Rattle.checking.proofs.check_cells.Tie as tie
 use Rattle.checking.proofs.check_cells.Reads as reads
 use Rattle.checking.proofs.check_cells.Lts as lts
-use Rattle.checking.proofs.faulty_group.Reads as faulty-group-reads
-use Rattle.checking.proofs.refused.Reads as refused-reads
-use Rattle.slots.proofs.slot_fault.Reads as slot-fault-reads
+use Rattle.checking.proofs.faulty_group.Reads as faulty-group
+use Rattle.checking.proofs.refused.Reads as refused
+use Rattle.slots.proofs.slot_fault.Reads as slot-fault
 
 -- Where the slots are walked.
 abbrev Walked : Type 0
 Walked =
-    lts.After-slot-fault (faulty-group-reads.Asked, faulty-group-reads.Learnt, refused-reads.Asked, refused-reads.Learnt, slot-fault-reads.Asked, slot-fault-reads.Learnt) reads.Pre reads.Post
+    lts.After-slot-fault
+    (faulty-group.Asked, faulty-group.Learnt, refused.Asked, refused.Learnt, slot-fault.Asked, slot-fault.Learnt)
+    reads.Pre
+    reads.Post
 
 abbrev cells : Walked → View
 cells c =

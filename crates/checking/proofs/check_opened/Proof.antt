@@ -24,8 +24,8 @@ returns c =
     let told = c .before .before in
     let read = told .before .before in
     let start = read .before .before .before .before in
-    c .refused .ensures
-    ∙ sym (check-group-line (start .args .image .now) (start .pre) (sym (read .read-group-lines .ensures .0) ∙ ap firstMeaning (told .k .given .1)))
+    let found = sym (read .read-group-lines .ensures .0) ∙ ap firstMeaning (told .k .given .1) in
+    c .refused .ensures ∙ sym (check-group-line (start .args .image .now) (start .pre) found)
 
 enum-told : tie.Need-enum-told
 enum-told c = search needs
@@ -35,7 +35,8 @@ read-slot-lines-requires c κs =
     let told = c .before in
     let read = told .before .before in
     let start = read .before .before .before .before in
-    (opening-answered (start .args .image .now) (start .pre), (sym (read .read-group-lines .ensures .0) ∙ ap firstMeaning (told .enum-told .given .1), refl))
+    let passed = sym (read .read-group-lines .ensures .0) ∙ ap firstMeaning (told .enum-told .given .1) in
+    (opening-answered (start .args .image .now) (start .pre), (passed, refl))
 
 enum-known-k-2 : tie.Need-enum-known-k-2
 enum-known-k-2 c = search needs
@@ -48,8 +49,8 @@ returns-2 c =
     let told = c .before .before in
     let read = told .before .before in
     let start = read .before .before .before .before .before .before .before .before in
-    c .refused2 .ensures
-    ∙ sym (check-line (start .args .image .now) (start .pre) (sym (read .read-slot-lines .ensures .0) ∙ ap firstMeaning (told .k2 .given .1)))
+    let found = sym (read .read-slot-lines .ensures .0) ∙ ap firstMeaning (told .k2 .given .1) in
+    c .refused2 .ensures ∙ sym (check-line (start .args .image .now) (start .pre) found)
 
 enum-told-2 : tie.Need-enum-told-2
 enum-told-2 c = search needs

@@ -3,12 +3,14 @@
 use borrow.Author.Needs.{needs}
 use mathlib.Core.Path.{_≡_, refl, sym}
 use mathlib.Core.List.{List}
-use mathlib.Core.Option.{none, some}
-use Prim.Native.Nat.{ℕ, _+_, _-_}
+use mathlib.Core.Bool.{not}
+use mathlib.Core.Option.{Option, none, some}
+use Prim.Native.Nat.{ℕ, _+_, _-_, _<_}
 use native.Mathlib.Omega.{arith}
 use Rattle.refusal.specs.First.{isSome}
 use Rattle.refusal.specs.Search.{Searched, searched-start, searched-turn, searched-found, searched-done}
-use Rattle.text.specs.Line.{groupLine}
+use Rattle.text.specs.declared.Pair.{Pair}
+use Rattle.text.specs.Line.{lineAt, groupLine}
 use Rattle.text.specs.LineLaws.{line-reads}
 use Rattle.text.specs.Answer.{pairMeaning}
 use Rattle.image.specs.View.{viewOf}
@@ -31,6 +33,37 @@ Inv-loop image count groups starts₀ seeds₀ g₀ starts seeds g = Read image 
 
 abbrev μ-loop : tie.MeasureT-loop
 μ-loop image count groups starts₀ seeds₀ g₀ starts seeds g = groups - g
+
+-- Where the line of group g is read.
+abbrev Line : Type 0
+Line = lts.After-read-group-line (read-group-line-reads.Asked, read-group-line-reads.Learnt) reads.Pre reads.Post Inv-loop μ-loop
+
+abbrev image : Line → List ℕ
+image c = c .before .before .before .before .args .image .now
+
+abbrev groups : Line → ℕ
+groups c = c .before .before .before .before .args .groups
+
+abbrev g : Line → ℕ
+g c = c .before .before .loop .g
+
+abbrev Here : Line → Type 0
+Here c =
+    let at = c .before .before .loop in
+    Read (image c) (c .before .before .before .before .args .count) (groups c) (at .starts) (at .seeds) (at .g)
+
+inv : (c : Line) → Here c
+inv c = c .before .before .loop .inv
+
+below : (c : Line) → 1 + g c < 1 + groups c
+below c = omega (arith, c .before .loop-test .taken)
+
+states : (c : Line) {told : Pair} → c .read-group-line .result ≡ told → groupLine (lineAt (1 + g c) (image c)) ≡ pairMeaning told
+states c e = line-reads pairMeaning groupLine (image c) (1 + g c) (1 + g c) (c .read-group-line .ensures) e refl
+
+tested : (c : Line) (o : Option (ℕ × ℕ)) → groupLine (lineAt (1 + g c) (image c)) ≡ o
+    → malformedIn (viewOf (image c)) (1 + g c) ≡ not (isSome o)
+tested c o e = group-line-tested (image c) (c .before .before .before .before .pre .0) (1 + g c) (omega arith) (below c) o e
 
 mul-starts : tie.Need-mul-starts Inv-loop μ-loop
 mul-starts c = search needs
@@ -69,16 +102,11 @@ add-t17 c = search needs
 returns : tie.Need-returns Inv-loop μ-loop
 unfolding isSome
 returns c =
-    let read = c .before .before in
-    let loop = read .before .before in
-    let start = loop .before .before in
-    let image = start .args .image .now in
-    let g = loop .loop .g in
-    let inv = loop .loop .inv in
-    let below = read .before .loop-test .taken in
-    let reads = line-reads pairMeaning groupLine image (1 + g) (1 + g) (read .read-group-line .ensures) (c .enum-told .given .1) refl in
-    let tested = group-line-tested image (start .pre .0) (1 + g) (omega arith) (omega (arith, below)) none reads in
-    (sym (searched-found (malformedIn (viewOf image)) 1 (1 + start .args .groups) (1 + g) (inv .searched) (omega (arith, below)) tested), inv .stored)
+    let line = c .before .before in
+    let malformed = tested line none (states line (c .enum-told .given .1)) in
+    let test = malformedIn (viewOf (image line)) in
+    let found = searched-found test 1 (1 + groups line) (1 + g line) (inv line .searched) (below line) malformed in
+    (sym found, inv line .stored)
 
 mul-starts-2 : tie.Need-mul-starts-2 Inv-loop μ-loop
 mul-starts-2 c = search needs
@@ -102,29 +130,27 @@ loop-again : tie.Need-loop-again Inv-loop μ-loop
 unfolding isSome
 loop-again c =
     let told = c .before in
-    let read = told .before .before in
-    let loop = read .before .before in
-    let start = loop .before .before in
-    let image = start .args .image .now in
-    let g = loop .loop .g in
-    let inv = loop .loop .inv in
-    let below = read .before .loop-test .taken in
-    let reads = line-reads pairMeaning groupLine image (1 + g) (1 + g) (read .read-group-line .ensures) (told .start .given .1) refl in
-    let tested = group-line-tested image (start .pre .0) (1 + g) (omega arith) (omega (arith, below)) (some _) reads in
-    let next : 1 + (g + 1) ≡ 1 + g + 1 = omega arith in
+    let line = told .before .before in
+    let loop = line .before .before .loop in
+    let opens = line .before .before .before .before .pre .0 in
+    let numbers = states line (told .start .given .1) in
+    let next : 1 + (g line + 1) ≡ 1 + g line + 1 = omega arith in
+    let test = malformedIn (viewOf (image line)) in
+    let well-formed = tested line (some _) numbers in
+    let lower = line .before .loop-test .taken in
     record {
-      searched = rw next (searched-turn (malformedIn (viewOf image)) 1 (1 + start .args .groups) (1 + g) (inv .searched) (omega (arith, below)) tested);
-      stored = groups-turn image (start .pre .0) g _ _ (loop .loop .starts) (loop .loop .seeds) below reads (inv .stored);
+      searched = rw next (searched-turn test 1 (1 + groups line) (1 + g line) (inv line .searched) (below line) well-formed);
+      stored = groups-turn (image line) opens (g line) _ _ (loop .starts) (loop .seeds) lower numbers (inv line .stored);
     }
 
 returns-2 : tie.Need-returns-2 Inv-loop μ-loop
 returns-2 c =
     let loop = c .before in
     let a = loop .before .before .args in
-    let inv = loop .loop .inv in
-    let end : loop .loop .g ≡ a .groups = omega (arith, inv .searched .within, c .loop-test .left) in
-    let done = searched-done (malformedIn (viewOf (a .image .now))) 1 (1 + a .groups) (1 + loop .loop .g) (inv .searched) (omega arith) in
-    (sym done, rw end at (inv .stored))
+    let read = loop .loop .inv in
+    let end : loop .loop .g ≡ a .groups = omega (arith, read .searched .within, c .loop-test .left) in
+    let test = malformedIn (viewOf (a .image .now)) in
+    (sym (searched-done test 1 (1 + a .groups) (1 + loop .loop .g) (read .searched) (omega arith)), rw end at (read .stored))
 
 pub read-group-lines-spec : {M : Type 1} → statement M
 read-group-lines-spec =

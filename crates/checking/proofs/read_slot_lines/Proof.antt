@@ -3,14 +3,16 @@
 use borrow.Author.Needs.{needs}
 use mathlib.Core.Path.{_≡_, refl, sym}
 use mathlib.Core.List.{List}
-use mathlib.Core.Option.{none, some}
+use mathlib.Core.Bool.{not}
+use mathlib.Core.Option.{Option, none, some}
 use Prim.Native.Nat.{ℕ, _+_, _-_, _<_}
 use native.Mathlib.Nat.{add-zero}
 use native.Mathlib.Omega.{arith}
 use Rattle.refusal.specs.Limits.{tagsMax}
 use Rattle.refusal.specs.First.{isSome}
 use Rattle.refusal.specs.Search.{Searched, searched-start, searched-turn, searched-found, searched-done}
-use Rattle.text.specs.Line.{slotLine}
+use Rattle.text.specs.declared.Tag.{Tag}
+use Rattle.text.specs.Line.{lineAt, slotLine}
 use Rattle.text.specs.LineLaws.{line-reads}
 use Rattle.text.specs.Answer.{tagMeaning}
 use Rattle.image.specs.View.{viewOf, slotIn}
@@ -33,6 +35,40 @@ Inv-loop image count groups tags₀ before j₀ tags j = Read image count groups
 
 abbrev μ-loop : tie.MeasureT-loop
 μ-loop image count groups tags₀ before j₀ tags j = count - j
+
+-- Where the line of slot j is read.
+abbrev Line : Type 0
+Line = lts.After-read-slot-line (read-slot-line-reads.Asked, read-slot-line-reads.Learnt) reads.Pre reads.Post Inv-loop μ-loop
+
+abbrev image : Line → List ℕ
+image c = c .before .before .before .before .args .image .now
+
+abbrev before : Line → ℕ
+before c = 1 + c .before .before .before .before .args .groups
+
+abbrev all : Line → ℕ
+all c = before c + c .before .before .before .before .args .count
+
+abbrev j : Line → ℕ
+j c = c .before .before .loop .j
+
+abbrev Here : Line → Type 0
+Here c =
+    let a = c .before .before .before .before .args in
+    Read (image c) (a .count) (a .groups) (c .before .before .loop .tags) (j c)
+
+inv : (c : Line) → Here c
+inv c = c .before .before .loop .inv
+
+below : (c : Line) → before c + j c < all c
+below c = omega (arith, c .before .loop-test .taken)
+
+states : (c : Line) {told : Tag} → c .read-slot-line .result ≡ told → slotLine (lineAt (before c + j c) (image c)) ≡ tagMeaning told
+states c e = line-reads tagMeaning slotLine (image c) (before c + j c) (before c + j c) (c .read-slot-line .ensures) e refl
+
+tested : (c : Line) (o : Option ℕ) → slotLine (lineAt (before c + j c) (image c)) ≡ o
+    → malformedIn (viewOf (image c)) (before c + j c) ≡ not (isSome o)
+tested c o e = slot-line-tested (image c) (c .before .before .before .before .pre .0) (before c + j c) (omega arith) o e
 
 add-before : tie.Need-add-before Inv-loop μ-loop
 add-before c = search needs
@@ -68,17 +104,10 @@ add-t13 c = search needs
 returns : tie.Need-returns Inv-loop μ-loop
 unfolding isSome
 returns c =
-    let read = c .before .before in
-    let loop = read .before .before in
-    let start = loop .before .before in
-    let a = start .args in
-    let image = a .image .now in
-    let k = 1 + a .groups + loop .loop .j in
-    let inv = loop .loop .inv in
-    let below = read .before .loop-test .taken in
-    let reads = line-reads tagMeaning slotLine image k k (read .read-slot-line .ensures) (c .enum-told .given .1) refl in
-    let tested = slot-line-tested image (start .pre .0) k (omega arith) none reads in
-    (sym (searched-found (malformedIn (viewOf image)) (1 + a .groups) (1 + a .groups + a .count) k (inv .searched) (omega (arith, below)) tested), inv .stored)
+    let line = c .before .before in
+    let malformed = tested line none (states line (c .enum-told .given .1)) in
+    let found = searched-found (malformedIn (viewOf (image line))) (before line) (all line) _ (inv line .searched) (below line) malformed in
+    (sym found, inv line .stored)
 
 mul-tags : tie.Need-mul-tags Inv-loop μ-loop
 mul-tags c = search needs
@@ -96,33 +125,26 @@ loop-again : tie.Need-loop-again Inv-loop μ-loop
 unfolding isSome
 loop-again c =
     let told = c .before in
-    let read = told .before .before in
-    let loop = read .before .before in
-    let start = loop .before .before in
-    let a = start .args in
-    let image = a .image .now in
-    let j = loop .loop .j in
-    let k = 1 + a .groups + j in
-    let inv = loop .loop .inv in
-    let below = read .before .loop-test .taken in
-    let reads = line-reads tagMeaning slotLine image k k (read .read-slot-line .ensures) (told .tag .given .1) refl in
-    let tested = slot-line-tested image (start .pre .0) k (omega arith) (some _) reads in
-    let next : 1 + a .groups + (j + 1) ≡ k + 1 = omega arith in
-    let room : j < tagsMax = omega (arith, below, start .pre .0 .count-legal) in
+    let line = told .before .before in
+    let opens = line .before .before .before .before .pre .0 in
+    let tag = states line (told .tag .given .1) in
+    let next : before line + (j line + 1) ≡ before line + j line + 1 = omega arith in
+    let room : j line < tagsMax = omega (arith, line .before .loop-test .taken, opens .count-legal) in
+    let test = malformedIn (viewOf (image line)) in
     record {
-      searched = rw next (searched-turn (malformedIn (viewOf image)) (1 + a .groups) (1 + a .groups + a .count) k (inv .searched) (omega (arith, below)) tested);
-      stored = filled-turn (slotIn (viewOf image)) (1 + a .groups) tagsMax j _ (loop .loop .tags) room (slot-states image (start .pre .0) j reads) (inv .stored);
+      searched = rw next (searched-turn test (before line) (all line) _ (inv line .searched) (below line) (tested line (some _) tag));
+      stored = filled-turn (slotIn (viewOf (image line))) (before line) tagsMax (j line) _ (line .before .before .loop .tags) room
+          (slot-states (image line) opens (j line) tag) (inv line .stored);
     }
 
 returns-2 : tie.Need-returns-2 Inv-loop μ-loop
 returns-2 c =
     let loop = c .before in
     let a = loop .before .before .args in
-    let inv = loop .loop .inv in
-    let end : loop .loop .j ≡ a .count = omega (arith, inv .searched .within, c .loop-test .left) in
-    let all = 1 + a .groups + a .count in
-    let done = searched-done (malformedIn (viewOf (a .image .now))) (1 + a .groups) all (1 + a .groups + loop .loop .j) (inv .searched) (omega arith) in
-    (sym done, rw end at (inv .stored))
+    let read = loop .loop .inv in
+    let end : loop .loop .j ≡ a .count = omega (arith, read .searched .within, c .loop-test .left) in
+    let test = malformedIn (viewOf (a .image .now)) in
+    (sym (searched-done test (1 + a .groups) (1 + a .groups + a .count) _ (read .searched) (omega arith)), rw end at (read .stored))
 
 pub read-slot-lines-spec : {M : Type 1} → statement M
 read-slot-lines-spec =

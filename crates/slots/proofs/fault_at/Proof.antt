@@ -64,11 +64,14 @@ examined c =
       second-is = ap (λ (p : ℕ). start e + p) (c .before .place-of2 .ensures);
     }
 
-group : (c : Placed) → groupOf (entry (c .before .before) .args .groups) (tag (entry (c .before .before))) ≡ entry (c .before .before) .args .g
-group c = sym (c .before .before .group-of .ensures) ∙ c .before .if1 .left
+abbrev hashed : Placed → Hashed
+hashed c = c .before .before
 
-own : (c : Placed) → (entry (c .before .before) .args .j ≡ first (c .before .before)) ⊎ (entry (c .before .before) .args .j ≡ second (c .before .before))
-own c = let h = c .before .before in either-of-zero (first h) (second h) (entry h .args .j) (c .if2 .left)
+group : (c : Placed) → groupOf (entry (hashed c) .args .groups) (tag (entry (hashed c))) ≡ entry (hashed c) .args .g
+group c = sym (hashed c .group-of .ensures) ∙ c .before .if1 .left
+
+own : (c : Placed) → (entry (hashed c) .args .j ≡ first (hashed c)) ⊎ (entry (hashed c) .args .j ≡ second (hashed c))
+own c = let h = hashed c in either-of-zero (first h) (second h) (entry h .args .j) (c .if2 .left)
 
 mul-tag : tie.Need-mul-tag
 mul-tag c = search needs
@@ -163,23 +166,23 @@ mul-if3 c = search needs
 
 element-copy-out-if3 : tie.Need-element-copy-out-if3
 element-copy-out-if3 c =
-    let h = c .before .before in
+    let h = hashed c in
     omega (arith, other-within (examined h) (group c) (own c), entry h .pre .1 .0 .end-legal)
 
 returns-3 : tie.Need-returns-3
 returns-3 c =
     let placed = c .before .before .before in
-    slot-repeated (examined (placed .before .before)) (group placed) (own placed) (c .before .if3 .taken) (c .if4 .taken)
+    slot-repeated (examined (hashed placed)) (group placed) (own placed) (c .before .if3 .taken) (c .if4 .taken)
 
 returns-4 : tie.Need-returns-4
 returns-4 c =
     let placed = c .before .before .before in
-    slot-sound (examined (placed .before .before)) (group placed) (own placed) (λ same lower. omega (arith, c .if4 .left))
+    slot-sound (examined (hashed placed)) (group placed) (own placed) (λ same lower. omega (arith, c .if4 .left))
 
 returns-5 : tie.Need-returns-5
 returns-5 c =
     let placed = c .before .before in
-    slot-sound (examined (placed .before .before)) (group placed) (own placed) (λ same lower. c .if3 .left same)
+    slot-sound (examined (hashed placed)) (group placed) (own placed) (λ same lower. c .if3 .left same)
 
 pub fault-at-spec : {M : Type 1} → statement M
 fault-at-spec =

@@ -120,7 +120,8 @@ fault-at-requires c κs =
     let a = start .args in
     let at = c .before .loop2 .inv .1 in
     let inside =
-    in-group (a .starts .now) (a .seeds .now) (a .groups) (turn .before .loop .g) (c .before .loop2 .j) (start .pre) (turn .loop-test .taken) (at .above) (c .loop2-test .taken) in
+    in-group (a .starts .now) (a .seeds .now) (a .groups) (turn .before .loop .g) (c .before .loop2 .j)
+    (start .pre) (turn .loop-test .taken) (at .above) (c .loop2-test .taken) in
     (start .pre, (inside, at .walked .placed))
 
 enum-known-k : tie.Need-enum-known-k Inv-loop2 μ-loop2 Inv-loop μ-loop
@@ -132,7 +133,8 @@ returns c =
     let found = told .before .before in
     let slot = found .before .before in
     let a = group slot .before .before .args in
-    walk-found (view (group slot)) (slot .loop2 .j) (group slot .before .loop .fault) (slot .loop2 .inv .1 .walked) (getD (a .starts .now) (a .groups) 0)
+    let all = getD (a .starts .now) (a .groups) 0 in
+    walk-found (view (group slot)) (slot .loop2 .j) (group slot .before .loop .fault) (slot .loop2 .inv .1 .walked) all
     (omega (arith, ends (group slot), found .before .loop2-test .taken)) (sym (found .fault-at .ensures) ∙ told .k .given .1)
 
 enum-told : tie.Need-enum-told Inv-loop2 μ-loop2 Inv-loop μ-loop
@@ -154,8 +156,8 @@ loop2-again c =
     let found = c .before .before in
     let slot = found .before .before in
     let fault = group slot .before .loop .fault in
-    let walked =
-    walk-on (view (group slot)) (slot .loop2 .j) fault (slot .loop2 .inv .1 .walked) (sym (found .fault-at .ensures) ∙ c .enum-told2 .given .1) in
+    let sound = sym (found .fault-at .ensures) ∙ c .enum-told2 .given .1 in
+    let walked = walk-on (view (group slot)) (slot .loop2 .j) fault (slot .loop2 .inv .1 .walked) sound in
     (omega (arith, slot .loop2 .inv .0), next slot fault (found .before .loop2-test .taken) walked)
 
 or-repeated-requires : tie.Need-or-repeated-requires Inv-loop2 μ-loop2 Inv-loop μ-loop
