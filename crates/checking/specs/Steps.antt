@@ -1,22 +1,52 @@
 -- The steps of checking behind the opening checks. Assumes nothing.
-use Prim.Native.Nat.{ℕ, _+_, _-_, _≤_, _<_}
+use Prim.Native.Nat.{ℕ, _+_, _<_}
 use mathlib.Core.Path.{_≡_}
 use mathlib.Core.Bool.{Bool}
-use mathlib.Core.List.{List}
+use mathlib.Core.List.{List, [], _∷_}
 use mathlib.Core.Option.{Option, Option·getD}
 use lib.ListN.{length, getD}
-use Rattle.image.specs.View.{View, startIn, endIn, slotIn, faulty}
+use Rattle.refusal.specs.Limits.{tagsMax, groupsMax}
+use Rattle.refusal.specs.Outcome.{Outcome, answered, refused}
+use Rattle.refusal.specs.First.{first}
+use Rattle.refusal.specs.Checks.{Check}
+use Rattle.image.specs.View.{View, countIn, groupsIn, startIn, seedIn, endIn, slotIn, faulty}
+use Rattle.image.specs.Checking.{misplaced, repeated}
+use Rattle.slots.specs.declared.SlotFault.{SlotFault}
+use Rattle.slots.specs.declared.SlotFault.the-variants.{Misplaced, Repeated, Nowhere}
 
--- Group g of the image is faulty.
-abbrev pub faultyIn : View → ℕ → Bool
-faultyIn v g = faulty g (startIn v g) (endIn v g)
+-- The checks that go by the numbers which the lines state: the last three of checking.
+unfoldable pub numberChecks : View → List Check
+numberChecks v =
+    (13, first (λ g. faulty g (startIn v g) (endIn v g)) (groupsIn v))
+    ∷ (14, first (misplaced v) (countIn v))
+    ∷ (15, first (repeated v) (countIn v))
+    ∷ []
 
--- How many slot lines stand before the first malformed line: all where no line is.
-abbrev pub slotsPassed : Option ℕ → ℕ → ℕ → ℕ
-slotsPassed found groups count = Option·getD found (1 + groups + count) - (1 + groups)
+-- Group g is faulty, by the cells of the starts.
+abbrev pub faultyAt : List ℕ → ℕ → Bool
+faultyAt starts g = faulty g (getD starts g 0) (getD starts (g + 1) 0)
 
--- The first `passed` cells hold the tags of their slots, and the cells behind them are as before.
-pub record Stored (v : View) (passed : ℕ) (before after : List ℕ) : Type 0 where
-  pub long : length after ≡ length before
-  pub holds : (j : ℕ) → j < passed → getD after j 0 ≡ slotIn v j
-  pub kept : (j : ℕ) → passed ≤ j → getD after j 0 ≡ getD before j 0
+-- How many lines stand before the first malformed one: all where none is.
+abbrev pub linesBefore : Option ℕ → ℕ → ℕ
+linesBefore found all = Option·getD found all
+
+-- The cells hold one number of each line from line `from` on that is among the first `lines`.
+pub record Filled (number : ℕ → ℕ) (from lines size : ℕ) (cells : List ℕ) : Type 0 where
+  pub long : length cells ≡ size
+  pub holds : (i : ℕ) → from + i < lines → getD cells i 0 ≡ number i
+
+-- The cells hold the starts and the seeds of the groups whose lines are among the first, and N stands behind the starts.
+pub record GroupsStored (v : View) (count groups lines : ℕ) (starts seeds : List ℕ) : Type 0 where
+  pub start : Filled (startIn v) 1 lines (groupsMax + 1) starts
+  pub seed : Filled (seedIn v) 1 lines groupsMax seeds
+  pub end : getD starts groups 0 ≡ count
+
+-- The cells hold the tags of the slots whose lines are among the first.
+abbrev pub TagsStored : View → ℕ → ℕ → List ℕ → Type 0
+TagsStored v groups lines tags = Filled (slotIn v) (1 + groups) lines tagsMax tags
+
+-- What a fault of the slots is refused with; without one the image is accepted.
+abbrev pub faultOutcome : SlotFault → Outcome ℕ
+faultOutcome (Misplaced j) = refused 14 j
+faultOutcome (Repeated j) = refused 15 j
+faultOutcome Nowhere = answered 0

@@ -1,30 +1,49 @@
 -- Each step of checking, by what the lines read as and by what the earlier steps have passed. Assumes nothing.
-use mathlib.Core.Path.{_≡_, refl, _∙_, ap}
+use mathlib.Core.Path.{_≡_, refl, sym, _∙_, ap}
 use mathlib.Core.Logic.{_⊎_, inl, inr}
 use mathlib.Core.Bool.{false, not}
-use mathlib.Core.List.{List}
+use mathlib.Core.List.{List, [], _∷_}
 use mathlib.Core.Option.{Option, none, some, Option·getD}
-use Prim.Native.Nat.{ℕ, zero, suc, _+_, _-_, _≤_, _<_}
+use Prim.Native.Nat.{ℕ, zero, suc, _+_, _≤_, _<_}
+use native.Mathlib.Numerals.{add-one}
 use native.Mathlib.Omega.{arith}
 use native.Mathlib.Nat.{eq-or-lt-of-le}
 use lib.ListN.{length, getD, set, length-set}
 use lib.Seq.{getD-set-same, getD-set-other}
 use borrow.Author.Tests.{lt-ltb, le-ltb}
-use Rattle.refusal.specs.Limits.{tagsMax}
-use Rattle.refusal.specs.Outcome.{answered, refused}
+use Rattle.refusal.specs.Limits.{seedMax, groupsMax}
+use Rattle.refusal.specs.Outcome.{Outcome, answered, refused}
 use Rattle.refusal.specs.First.{first, isSome}
-use Rattle.refusal.specs.FirstLaws.{first-none, first-out}
+use Rattle.refusal.specs.FirstLaws.{first-none, first-out, first-more, first-cong}
 use Rattle.refusal.specs.Checks.{inOrder}
 use Rattle.refusal.specs.ChecksLaws.{inOrder-append}
 use Rattle.text.specs.Line.{lineAt, groupLine, slotLine}
-use Rattle.image.specs.View.{View, viewOf, groupsIn, startIn, endIn, slotLineIn, slotIn, faulty}
+use Rattle.text.specs.LineLaws.{group-only}
+use Rattle.image.specs.View.{View, viewOf, countIn, groupsIn, startIn, seedIn, endIn, slotLineIn, slotIn, faulty}
 use Rattle.image.specs.Checking.{openingChecks, malformedIn, misplaced, repeated, checkingChecks, checkingOf}
 use Rattle.image.specs.FaultLaws.{fair-of-faulty}
+use Rattle.image.specs.SameNumbersLaws.{SameNumbers, same-faulty, same-misplaced, same-repeated}
 use Rattle.opening.specs.Opening.{openingOf}
 use Rattle.opening.specs.OpeningLaws.{opening-refused, opening-passes, Opens, opening-answered}
-use Rattle.slots.specs.declared.Group.{Group}
-use Rattle.slots.specs.Group.{GroupIs, Regular, SlotsRead, AllPlaced}
-use Rattle.checking.specs.Steps.{faultyIn, slotsPassed, Stored}
+use Rattle.slots.specs.Cells.{cellsView, Legal, Regular}
+use Rattle.slots.specs.CellsLaws.{cells-count, cells-groups, cells-start, cells-seed, cells-slot, cells-end}
+use Rattle.slots.specs.Fault.{faultOf, faultBefore}
+use Rattle.checking.specs.Steps.{numberChecks, faultyAt, Filled, GroupsStored, TagsStored, faultOutcome}
+
+-- One cell more is filled.
+pub filled-none : (number : ℕ → ℕ) (from size : ℕ) (cells : List ℕ) → length cells ≡ size → Filled number from from size cells
+filled-none number from size cells long = record { long = long; holds = λ i below. absurd (omega arith) }
+
+pub filled-turn : (number : ℕ → ℕ) (from size i x : ℕ) (cells : List ℕ) → i < size → number i ≡ x → Filled number from (from + i) size cells
+    → Filled number from (from + (i + 1)) size (set cells i x)
+filled-turn number from size i x cells below states filled = record {
+  long = length-set cells i x ∙ filled .long;
+  holds = λ k lower. go k (eq-or-lt-of-le (omega arith));
+}
+  where
+    go : (k : ℕ) → (k ≡ i) ⊎ (k < i) → getD (set cells i x) k 0 ≡ number k
+    go k (inl same) = rw (same, getD-set-same cells i x 0 (omega (arith, filled .long)), states)
+    go k (inr lower) = getD-set-other cells i k x 0 (λ same. omega arith) ∙ filled .holds k (omega arith)
 
 -- The lines of an image that opens.
 module _ (image : List ℕ) {count groups : ℕ} (opens : Opens image count groups) where
@@ -59,65 +78,112 @@ module _ (image : List ℕ) {count groups : ℕ} (opens : Opens image count grou
       let past : groupsIn (viewOf image) ≤ k = omega (arith, opens .groups-is) in
       rw (le-ltb k (groupsIn (viewOf image)) past, e)
 
-  -- The tag that line k states is that of the slot which the line is for.
-  slot-states : (k : ℕ) → 1 + groups ≤ k → {t : ℕ} → slotLine (lineAt k image) ≡ some t → slotIn (viewOf image) (k - 1 - groups) ≡ t
-  unfolding slotIn slotLineIn viewOf
-  slot-states k from e =
-      let own : slotLineIn (viewOf image) (k - 1 - groups) ≡ k = omega (arith, opens .groups-is) in
-      rw (own, e)
-
-  -- One tag more is stored.
-  module _ (k t : ℕ) (from : 1 + groups ≤ k) (reads : slotLine (lineAt k image) ≡ some t) (before after : List ℕ)
-      (cell : k - 1 - groups < length before) where
-    abbrev i : ℕ
-    i = k - 1 - groups
-
-    pub stored-turn : Stored (viewOf image) (k - (1 + groups)) before after
-        → Stored (viewOf image) (k + 1 - (1 + groups)) before (set after (k - 1 - groups) t)
-    stored-turn stored = record {
-      long = length-set after i t ∙ stored .long;
-      holds = λ j below. go j (eq-or-lt-of-le (omega arith));
-      kept = λ j past. getD-set-other after i j t 0 (λ same. omega arith) ∙ stored .kept j (omega arith);
-    }
-      where
-        go : (j : ℕ) → (j ≡ i) ⊎ (j < i) → getD (set after i t) j 0 ≡ slotIn (viewOf image) j
-        go j (inl same) = rw (same, getD-set-same after i t 0 (omega (arith, stored .long)), slot-states k from reads)
-        go j (inr lower) = getD-set-other after i j t 0 (λ same. omega arith) ∙ stored .holds j (omega arith)
-
-  -- What the slots' passes ask for.
-  pub read-of : {found : Option ℕ} {before after : List ℕ} → Stored (viewOf image) (slotsPassed found groups count) before after
-      → length before ≡ tagsMax → found ≡ none → SlotsRead (viewOf image) after
-  read-of {found} {before} {after} stored long e =
-      let all : slotsPassed found groups count ≡ count = rw e (omega arith) in
-      record {
-        enough = omega (arith, opens .count-is, opens .count-legal, stored .long);
-        holds = λ j below. stored .holds j (omega (arith, opens .count-is, all));
-      }
-
-  pub regular-of : first (faultyIn (viewOf image)) groups ≡ none → Regular image count groups
-  regular-of e = record {
-    opens = opens;
-    fair = λ g lt.
-        fair-of-faulty g (startIn (viewOf image) g) (endIn (viewOf image) g) (first-none (faultyIn (viewOf image)) groups e g (omega (arith, opens .groups-is)));
+  -- The groups that are stored: none, and one more.
+  pub groups-none : (starts seeds : List ℕ) → length starts ≡ groupsMax + 1 → length seeds ≡ groupsMax
+      → GroupsStored (viewOf image) count groups 1 (set starts groups count) seeds
+  groups-none starts seeds long long′ = record {
+    start = filled-none (startIn (viewOf image)) 1 (groupsMax + 1) (set starts groups count) (length-set starts groups count ∙ long);
+    seed = filled-none (seedIn (viewOf image)) 1 groupsMax seeds long′;
+    end = getD-set-same starts groups count 0 (omega (arith, opens .groups-legal));
   }
 
-  pub placed-of : first (misplaced (viewOf image)) count ≡ none → AllPlaced (viewOf image)
-  placed-of e = λ j lt. first-none (misplaced (viewOf image)) count e j (omega (arith, opens .count-is))
+  pub groups-turn : (g start seed : ℕ) (starts seeds : List ℕ) → g < groups → groupLine (lineAt (1 + g) image) ≡ some (start, seed)
+      → GroupsStored (viewOf image) count groups (1 + g) starts seeds
+      → GroupsStored (viewOf image) count groups (1 + (g + 1)) (set starts g start) (set seeds g seed)
+  unfolding startIn seedIn viewOf
+  groups-turn g start seed starts seeds below reads stored =
+      let legal = opens .groups-legal in
+      let line : suc g ≡ 1 + g = omega arith in
+      let v = viewOf image in
+      record {
+        start = filled-turn (startIn v) 1 (groupsMax + 1) g start starts (omega arith) (rw (startIn, line, reads)) (stored .start);
+        seed = filled-turn (seedIn v) 1 groupsMax g seed seeds (omega arith) (rw (seedIn, line, reads)) (stored .seed);
+        end = getD-set-other starts g groups start 0 (λ same. omega arith) ∙ stored .end;
+      }
 
--- Before the first slot line nothing is stored.
-pub stored-none : (v : View) (passed : ℕ) (before : List ℕ) → passed ≡ 0 → Stored v passed before before
-stored-none v passed before empty = record { long = refl; holds = λ j below. absurd (omega arith); kept = λ j past. refl }
+  -- The tag that a slot's line states.
+  pub slot-states : (j : ℕ) {t : ℕ} → slotLine (lineAt (1 + groups + j) image) ≡ some t → slotIn (viewOf image) j ≡ t
+  unfolding slotIn slotLineIn viewOf
+  slot-states j e = rw (opens .groups-is, e)
 
--- A group that was read is faulty where the image's is.
-pub fault-tested : (v : View) (g : ℕ) (group : Group) → GroupIs v g group → faultyIn v g ≡ faulty g (group .start) (group .end)
-fault-tested v g group is = rw (is .start-is, is .end-is)
+  -- A seed is in its range.
+  seed-legal : (g : ℕ) → seedIn (viewOf image) g ≤ seedMax
+  unfolding seedIn viewOf
+  seed-legal g = go (groupLine (lineAt (suc g) image)) refl
+    where
+      go : (o : Option (ℕ × ℕ)) → groupLine (lineAt (suc g) image) ≡ o → (Option·getD o (0, 0)) .1 ≤ seedMax
+      go none e = omega arith
+      go (some (start, seed)) e = (group-only start seed (lineAt (suc g) image) e) .2
+
+  -- Where every line is read, the cells hold the image's numbers, and these are in their ranges.
+  module _ {starts seeds : List ℕ} (stored : GroupsStored (viewOf image) count groups (1 + groups) starts seeds) where
+    pub cells-same : {tags : List ℕ} → TagsStored (viewOf image) groups (1 + groups + count) tags
+        → SameNumbers (viewOf image) (cellsView starts seeds tags groups)
+    cells-same {tags} slots =
+        let group-is = opens .groups-is in
+        let count-is = opens .count-is in
+        record {
+          count = count-is ∙ sym (stored .end) ∙ sym (cells-count starts seeds tags groups);
+          groups = group-is ∙ sym (cells-groups starts seeds tags groups);
+          some-group = omega (arith, opens .groups-some);
+          starts = λ g below. sym (stored .start .holds g (omega arith)) ∙ sym (cells-start starts seeds tags groups g);
+          seeds = λ g below. sym (stored .seed .holds g (omega arith)) ∙ sym (cells-seed starts seeds tags groups g);
+          slots = λ j below. sym (slots .holds j (omega arith)) ∙ sym (cells-slot starts seeds tags groups j);
+        }
+
+    pub cells-legal : Legal starts seeds groups
+    cells-legal = record {
+      groups-some = opens .groups-some;
+      groups-legal = opens .groups-legal;
+      count-legal = omega (arith, stored .end, opens .count-legal);
+      seeds-legal = λ g below. omega (arith, stored .seed .holds g (omega arith), seed-legal g);
+    }
+
+-- No group is faulty.
+pub regular-of : (starts seeds : List ℕ) (groups : ℕ) → Legal starts seeds groups → first (faultyAt starts) groups ≡ none
+    → Regular starts seeds groups
+regular-of starts seeds groups legal e = record {
+  legal = legal;
+  fair = λ g below. fair-of-faulty g (getD starts g 0) (getD starts (g + 1) 0) (first-none (faultyAt starts) groups e g below);
+}
+
+-- The checks of the numbers, over cells.
+module _ (starts seeds tags : List ℕ) (groups : ℕ) where
+  abbrev cells : View
+  cells = cellsView starts seeds tags groups
+
+  faulty-cells : first (λ g. faulty g (startIn cells g) (endIn cells g)) (groupsIn cells) ≡ first (faultyAt starts) groups
+  faulty-cells =
+      ap (first (λ g. faulty g (startIn cells g) (endIn cells g))) (cells-groups starts seeds tags groups)
+      ∙ first-cong _ _ groups (λ g below. rw (cells-start starts seeds tags groups g, cells-end starts seeds tags groups g below))
+
+  pub numbers-faulty : {g : ℕ} → first (faultyAt starts) groups ≡ some g → inOrder {A = ℕ} (numberChecks cells) (answered 0) ≡ refused 13 g
+  unfolding numberChecks inOrder
+  numbers-faulty e = rw (faulty-cells, e)
+
+  pub numbers-slots : first (faultyAt starts) groups ≡ none
+      → inOrder (numberChecks cells) (answered 0) ≡ faultOutcome (faultBefore cells (getD starts groups 0))
+  unfolding numberChecks inOrder faultBefore
+  numbers-slots e =
+      rw (faulty-cells, e, cells-count starts seeds tags groups)
+      (go (first (misplaced cells) (getD starts groups 0)) (first (repeated cells) (getD starts groups 0)))
+    where
+      go : (o p : Option ℕ) → inOrder ((14, o) ∷ (15, p) ∷ []) (answered 0) ≡ faultOutcome (faultOf o p)
+      go (some j) p = refl
+      go none (some j) = refl
+      go none none = refl
+
+-- Views that state the same numbers are checked alike.
+same-numbers : (v w : View) → SameNumbers v w → inOrder {A = ℕ} (numberChecks v) (answered 0) ≡ inOrder (numberChecks w) (answered 0)
+unfolding numberChecks
+same-numbers v w same = rw (same-faulty v w same, same-misplaced v w same, same-repeated v w same)
 
 -- An image that does not open is refused so.
 pub check-unopened : (image : List ℕ) {number place : ℕ} → openingOf image ≡ refused number place → checkingOf image ≡ refused number place
 unfolding checkingOf checkingChecks
 check-unopened image e = inOrder-append (openingChecks (viewOf image)) _ _ ∙ opening-refused image e _
 
--- In one that opens, the first step that does not pass decides.
+-- In one that opens, a malformed line decides, and where there is none, the numbers in the cells do.
 module _ (image : List ℕ) {count groups : ℕ} (opened : openingOf image ≡ answered (count, groups)) where
   opens : Opens image count groups
   opens = opening-answered image opened
@@ -127,25 +193,15 @@ module _ (image : List ℕ) {count groups : ℕ} (opened : openingOf image ≡ a
   check-line e =
       inOrder-append (openingChecks (viewOf image)) _ _ ∙ opening-passes image opened _ ∙ rw (opens .groups-is, opens .count-is, e)
 
-  module _ (lines : first (malformedIn (viewOf image)) (1 + groups + count) ≡ none) where
-    pub check-group : {g : ℕ} → first (faultyIn (viewOf image)) groups ≡ some g → checkingOf image ≡ refused 13 g
-    unfolding checkingOf checkingChecks inOrder
-    check-group e =
-        inOrder-append (openingChecks (viewOf image)) _ _ ∙ opening-passes image opened _ ∙ rw (opens .groups-is, opens .count-is, lines, e)
+  pub check-group-line : {k : ℕ} → first (malformedIn (viewOf image)) (1 + groups) ≡ some k → checkingOf image ≡ refused 12 k
+  check-group-line e = check-line (first-more (malformedIn (viewOf image)) (1 + groups) (1 + groups + count) (omega arith) e)
 
-    module _ (fair : first (faultyIn (viewOf image)) groups ≡ none) where
-      pub check-misplaced : {j : ℕ} → first (misplaced (viewOf image)) count ≡ some j → checkingOf image ≡ refused 14 j
-      unfolding checkingOf checkingChecks inOrder
-      check-misplaced e =
-          inOrder-append (openingChecks (viewOf image)) _ _ ∙ opening-passes image opened _ ∙ rw (opens .groups-is, opens .count-is, lines, fair, e)
+  lines-passed : first (malformedIn (viewOf image)) (1 + groups + count) ≡ none
+      → checkingOf image ≡ inOrder (numberChecks (viewOf image)) (answered 0)
+  unfolding checkingOf checkingChecks inOrder numberChecks
+  lines-passed e =
+      inOrder-append (openingChecks (viewOf image)) _ _ ∙ opening-passes image opened _ ∙ rw (opens .groups-is, opens .count-is, e)
 
-      module _ (placed : first (misplaced (viewOf image)) count ≡ none) where
-        pub check-repeated : {j : ℕ} → first (repeated (viewOf image)) count ≡ some j → checkingOf image ≡ refused 15 j
-        unfolding checkingOf checkingChecks inOrder
-        check-repeated e =
-            inOrder-append (openingChecks (viewOf image)) _ _ ∙ opening-passes image opened _ ∙ rw (opens .groups-is, opens .count-is, lines, fair, placed, e)
-
-        pub check-accepted : first (repeated (viewOf image)) count ≡ none → checkingOf image ≡ answered 0
-        unfolding checkingOf checkingChecks inOrder
-        check-accepted e =
-            inOrder-append (openingChecks (viewOf image)) _ _ ∙ opening-passes image opened _ ∙ rw (opens .groups-is, opens .count-is, lines, fair, placed, e)
+  pub check-numbers : (w : View) → first (malformedIn (viewOf image)) (1 + groups + count) ≡ none → SameNumbers (viewOf image) w
+      → checkingOf image ≡ inOrder (numberChecks w) (answered 0)
+  check-numbers w lines same = lines-passed lines ∙ same-numbers (viewOf image) w same

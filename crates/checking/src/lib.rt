@@ -1,28 +1,32 @@
 // The operation "checking": whether an image is one that lookup may trust, for any bytes.
 use opening::Opened;
+use refusal::First;
 use refusal::Reason;
 use refusal::Refusal;
-use slots::Lowest;
+use slots::SEED_CELLS;
+use slots::START_CELLS;
+use slots::SlotFault;
+use slots::TAG_CELLS;
+use text::LINE_LENGTH;
 use text::Pair;
 use text::Tag;
 ghost use mathlib.Core.Path.{_≡_};
 ghost use mathlib.Core.Option.{none};
-ghost use Prim.Native.Nat.{_+_};
+ghost use Prim.Native.Nat.{_+_, _≤_};
 ghost use lib.ListN.{length};
-ghost use Rattle.refusal.specs.Limits.{tagsMax};
+ghost use Rattle.refusal.specs.Limits.{tagsMax, groupsMax};
 ghost use Rattle.refusal.specs.Outcome.{answered, refused};
 ghost use Rattle.refusal.specs.Reason.{reasonNumber};
 ghost use Rattle.refusal.specs.First.{first};
+ghost use Rattle.refusal.specs.Answer.{firstMeaning};
+ghost use Rattle.refusal.specs.Checks.{inOrder};
 ghost use Rattle.image.specs.View.{viewOf};
 ghost use Rattle.image.specs.Checking.{malformedIn, checkingOf};
 ghost use Rattle.opening.specs.Opening.{openingOf};
 ghost use Rattle.opening.specs.OpeningLaws.{Opens};
-ghost use Rattle.slots.specs.Answer.{lowestMeaning};
+ghost use Rattle.slots.specs.Cells.{cellsView, Legal};
 ghost use Rattle.checking.specs.Answer.{checkOutcome};
-ghost use Rattle.checking.specs.Steps.{faultyIn, slotsPassed, Stored};
-
-// Cells for the tag of every slot.
-const TAG_CELLS: usize = refusal::TAGS_MAX;
+ghost use Rattle.checking.specs.Steps.{numberChecks, faultyAt, linesBefore, GroupsStored, TagsStored};
 
 // What checking answers: accepted, or refused.
 pub enum CheckAnswer {
@@ -40,98 +44,112 @@ pub fn check_image(image: &[u8]) -> CheckAnswer
     }
 }
 
-// Checking of an image that opens: its lines, its groups, and its slots in two passes over the tags that the lines stated.
+// Checking of an image that opens: its lines are read once, into cells, and what they state is checked there.
 fn check_opened(image: &[u8], count: u32, groups: u32) -> CheckAnswer
     requires { ⌜ openingOf (now image) ≡ answered (count, groups) ⌝ }
     ensures answer { λ r. ⌜ checkOutcome r ≡ checkingOf (now (image .entry)) ⌝ }
 {
+    let mut starts = [0u32; START_CELLS];
+    let mut seeds = [0u32; SEED_CELLS];
     let mut tags = [0u32; TAG_CELLS];
-    if let Lowest::At(k) = malformed_line(image, count, groups, &mut tags) {
+    if let First::At(k) = read_group_lines(image, count, groups, &mut starts, &mut seeds) {
         return refused(Reason::MalformedLine, k);
     }
-    if let Lowest::At(g) = faulty_group(image, count, groups) {
-        return refused(Reason::FaultyGroup, g);
+    if let First::At(k) = read_slot_lines(image, count, groups, &mut tags) {
+        return refused(Reason::MalformedLine, k);
     }
-    if let Lowest::At(j) = slots::misplaced_slot(&tags, image, count, groups) {
-        return refused(Reason::WrongSlot, j);
-    }
-    if let Lowest::At(j) = slots::repeated_slot(&tags, image, count, groups) {
-        return refused(Reason::RepeatedTag, j);
-    }
-    CheckAnswer::Accepted
+    check_cells(&starts, &seeds, &tags, groups)
 }
 
 // The refusal for a reason, at the line, group or slot that it names.
-fn refused(reason: Reason, place: u32) -> CheckAnswer
+fn refused(reason: Reason, place: usize) -> CheckAnswer
     ensures answer { λ r. ⌜ checkOutcome r ≡ refused (reasonNumber reason) place ⌝ }
 {
-    CheckAnswer::Refused(Refusal {
-        reason,
-        place: place as usize,
-    })
+    CheckAnswer::Refused(Refusal { reason, place })
 }
 
-// The first malformed line. The tags of the slot lines before it are stored.
-fn malformed_line(image: &[u8], count: u32, groups: u32, tags: &mut [u32; TAG_CELLS]) -> Lowest
+// The first malformed line among line 0 and the group lines. The starts and the seeds of the groups before it are stored, and N
+// behind the starts.
+fn read_group_lines(
+    image: &[u8],
+    count: u32,
+    groups: u32,
+    starts: &mut [u32; START_CELLS],
+    seeds: &mut [u32; SEED_CELLS],
+) -> First
     requires { ⌜ Opens (now image) count groups ⌝ }
-    requires { ⌜ length (now tags) ≡ tagsMax ⌝ }
-    ensures answer { λ r. ⌜ lowestMeaning r ≡ first (malformedIn (viewOf (now (image .entry)))) (1 + groups + count) ⌝ }
-    ensures tags { λ r. ⌜ Stored (viewOf (now (image .entry))) (slotsPassed (lowestMeaning r) groups count) (now (tags .entry)) (now (tags .exit)) ⌝ }
+    requires { ⌜ (length (now starts) ≡ groupsMax + 1) × (length (now seeds) ≡ groupsMax) ⌝ }
+    ensures answer { λ r. ⌜ firstMeaning r ≡ first (malformedIn (viewOf (now (image .entry)))) (1 + groups) ⌝ }
+    ensures cells { λ r. ⌜ GroupsStored (viewOf (now (image .entry))) count groups (linesBefore (firstMeaning r) (1 + groups))
+        (now (starts .exit)) (now (seeds .exit)) ⌝ }
 {
-    if let Lowest::At(k) = malformed_group_line(image, count, groups) {
-        return Lowest::At(k);
-    }
-    malformed_slot_line(image, count, groups, tags)
-}
-
-// The first malformed line among line 0 and the group lines.
-fn malformed_group_line(image: &[u8], count: u32, groups: u32) -> Lowest
-    requires { ⌜ Opens (now image) count groups ⌝ }
-    ensures answer { λ r. ⌜ lowestMeaning r ≡ first (malformedIn (viewOf (now (image .entry)))) (1 + groups) ⌝ }
-{
-    let end = 1 + groups;
-    let mut k = 1;
-    while k < end {
-        let Pair::Numbers(_, _) = text::read_group_line(image, 11 * k as usize) else {
-            return Lowest::At(k);
+    starts[groups as usize] = count;
+    let mut g = 0;
+    while g < groups as usize {
+        let Pair::Numbers(start, seed) = text::read_group_line(image, LINE_LENGTH * (1 + g)) else {
+            return First::At(1 + g);
         };
-        k += 1;
+        starts[g] = start;
+        seeds[g] = seed;
+        g += 1;
     }
-    Lowest::Nowhere
+    First::Nowhere
 }
 
 // The first malformed line, where the lines before the slots are well formed. The tags of the slot lines before it are stored.
-fn malformed_slot_line(image: &[u8], count: u32, groups: u32, tags: &mut [u32; TAG_CELLS]) -> Lowest
+fn read_slot_lines(image: &[u8], count: u32, groups: u32, tags: &mut [u32; TAG_CELLS]) -> First
     requires { ⌜ Opens (now image) count groups ⌝ }
     requires { ⌜ first (malformedIn (viewOf (now image))) (1 + groups) ≡ none ⌝ }
     requires { ⌜ length (now tags) ≡ tagsMax ⌝ }
-    ensures answer { λ r. ⌜ lowestMeaning r ≡ first (malformedIn (viewOf (now (image .entry)))) (1 + groups + count) ⌝ }
-    ensures tags { λ r. ⌜ Stored (viewOf (now (image .entry))) (slotsPassed (lowestMeaning r) groups count) (now (tags .entry)) (now (tags .exit)) ⌝ }
+    ensures answer { λ r. ⌜ firstMeaning r ≡ first (malformedIn (viewOf (now (image .entry)))) (1 + groups + count) ⌝ }
+    ensures cells { λ r. ⌜ TagsStored (viewOf (now (image .entry))) groups (linesBefore (firstMeaning r) (1 + groups + count))
+        (now (tags .exit)) ⌝ }
 {
-    let end = 1 + groups + count;
-    let mut k = 1 + groups;
-    while k < end {
-        let Tag::Number(tag) = text::read_slot_line(image, 11 * k as usize) else {
-            return Lowest::At(k);
+    let before = 1 + groups as usize;
+    let mut j = 0;
+    while j < count as usize {
+        let Tag::Number(tag) = text::read_slot_line(image, LINE_LENGTH * (before + j)) else {
+            return First::At(before + j);
         };
-        tags[(k - 1 - groups) as usize] = tag;
-        k += 1;
+        tags[j] = tag;
+        j += 1;
     }
-    Lowest::Nowhere
+    First::Nowhere
+}
+
+// The checks behind those of the lines, over the numbers that the lines state: 13, 14 and 15.
+fn check_cells(
+    starts: &[u32; START_CELLS],
+    seeds: &[u32; SEED_CELLS],
+    tags: &[u32; TAG_CELLS],
+    groups: u32,
+) -> CheckAnswer
+    requires { ⌜ Legal (now starts) (now seeds) groups ⌝ }
+    ensures answer { λ r. ⌜ checkOutcome r
+        ≡ inOrder (numberChecks (cellsView (now (starts .entry)) (now (seeds .entry)) (now (tags .entry)) groups)) (answered 0) ⌝ }
+{
+    if let First::At(g) = faulty_group(starts, groups) {
+        return refused(Reason::FaultyGroup, g);
+    }
+    match slots::slot_fault(starts, seeds, tags, groups) {
+        SlotFault::Misplaced(j) => refused(Reason::WrongSlot, j),
+        SlotFault::Repeated(j) => refused(Reason::RepeatedTag, j),
+        SlotFault::Nowhere => CheckAnswer::Accepted,
+    }
 }
 
 // The lowest faulty group.
-fn faulty_group(image: &[u8], count: u32, groups: u32) -> Lowest
-    requires { ⌜ Opens (now image) count groups ⌝ }
-    ensures answer { λ r. ⌜ lowestMeaning r ≡ first (faultyIn (viewOf (now (image .entry)))) groups ⌝ }
+fn faulty_group(starts: &[u32; START_CELLS], groups: u32) -> First
+    requires { ⌜ groups ≤ groupsMax ⌝ }
+    ensures answer { λ r. ⌜ firstMeaning r ≡ first (faultyAt (now (starts .entry))) groups ⌝ }
 {
     let mut g = 0;
     while g < groups {
-        let group = slots::group_at(image, count, groups, g);
-        if opening::faulty(g, group.start, group.end) {
-            return Lowest::At(g);
+        let at = g as usize;
+        if opening::faulty(g, starts[at], starts[at + 1]) {
+            return First::At(at);
         }
         g += 1;
     }
-    Lowest::Nowhere
+    First::Nowhere
 }

@@ -105,7 +105,7 @@ pub data Looked (v : View) (t : ℕ) (outcome : Outcome Found) : Type 0 where
   nowhere : ((j : ℕ) → HoldsTag v j t → ⊥) → outcome ≡ answered unknown → Looked v t outcome
 
 -- A slot that is not misplaced holds a tag of its group, at one of the tag's places.
-placed-own : (v : View) (j t : ℕ) → slotIn v j ≡ t → misplaced v j ≡ false
+pub placed-own : (v : View) (j t : ℕ) → slotIn v j ≡ t → misplaced v j ≡ false
     → (ownGroup v t ≡ groupOfSlot v j) × ((j ≡ candidateIn v (groupOfSlot v j) 0 t) ⊎ (j ≡ candidateIn v (groupOfSlot v j) 1 t))
 unfolding misplaced
 placed-own v j t e placed =

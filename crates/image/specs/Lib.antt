@@ -8,3 +8,4 @@ pub mod FaultLaws
 pub mod CheckedLookup
 pub mod LookupLaws
 pub mod Examples
+pub mod SameNumbersLaws

@@ -1,191 +1,103 @@
-// The slots of an image, group by group: the lowest that is misplaced, and the lowest that repeats a tag.
-use text::Pair;
+// The slots of an image whose numbers are read into cells: the lowest that is misplaced, and the lowest that repeats a tag.
 ghost use mathlib.Core.Path.{_≡_};
 ghost use mathlib.Core.Option.{none};
-ghost use Prim.Native.Nat.{_≤_, _<_};
+ghost use lib.ListN.{getD};
 ghost use Rattle.refusal.specs.First.{first};
-ghost use Rattle.image.specs.View.{viewOf, countIn, endIn};
-ghost use Rattle.image.specs.Checking.{misplaced, repeated};
-ghost use Rattle.opening.specs.OpeningLaws.{Opens};
-ghost use Rattle.slots.specs.Answer.{lowestMeaning};
-ghost use Rattle.slots.specs.Group.{LineIs, GroupIs, Regular, RegularGroup, SlotsRead, AllPlaced, standsBefore};
+ghost use Rattle.image.specs.Checking.{misplaced};
+ghost use Rattle.slots.specs.Cells.{cellsView, Regular, InGroup};
+ghost use Rattle.slots.specs.Fault.{orRepeated, faultAt, faultBefore};
 
-// The lowest group or slot that has a fault, if one has.
-pub enum Lowest {
-    At(u32),
+// Cells for the start of every group and N behind the last, for the seeds, and for the tags of the slots.
+pub const START_CELLS: usize = refusal::GROUPS_MAX as usize + 1;
+
+pub const SEED_CELLS: usize = refusal::GROUPS_MAX as usize;
+
+pub const TAG_CELLS: usize = refusal::TAGS_MAX;
+
+// What is wrong with the slots: the lowest misplaced one, or where none is, the lowest that repeats a tag.
+pub enum SlotFault {
+    Misplaced(usize),
+    Repeated(usize),
     Nowhere,
 }
 
-// What a group's line states.
-pub struct GroupLine {
-    pub start: u32,
-    pub seed: u32,
-}
-
-// A group: its number, the slots from its start up to its end, and its seed.
-pub struct Group {
-    pub number: u32,
-    pub start: u32,
-    pub end: u32,
-    pub seed: u32,
-}
-
-// The lowest slot whose tag belongs to another group or has neither place there. The tags are those of the slots, read before.
-pub fn misplaced_slot(tags: &[u32], image: &[u8], count: u32, groups: u32) -> Lowest
-    requires { ⌜ Regular (now image) count groups ⌝ }
-    requires { ⌜ SlotsRead (viewOf (now image)) (now tags) ⌝ }
-    ensures answer { λ r. ⌜ lowestMeaning r ≡ first (misplaced (viewOf (now (image .entry)))) count ⌝ }
+// The fault of all slots. One walk looks for both kinds: it ends at a misplaced slot, and remembers the lowest that repeats a tag.
+pub fn slot_fault(
+    starts: &[u32; START_CELLS],
+    seeds: &[u32; SEED_CELLS],
+    tags: &[u32; TAG_CELLS],
+    groups: u32,
+) -> SlotFault
+    requires { ⌜ Regular (now starts) (now seeds) groups ⌝ }
+    ensures answer { λ r. ⌜ r ≡ faultBefore (cellsView (now (starts .entry)) (now (seeds .entry)) (now (tags .entry)) groups)
+        (getD (now (starts .entry)) groups 0) ⌝ }
 {
+    let mut fault = SlotFault::Nowhere;
     let mut g = 0;
-    while g < groups {
-        let group = group_at(image, count, groups, g);
-        if let Lowest::At(j) = misplaced_in(tags, image, groups, group) {
-            return Lowest::At(j);
+    let mut j = 0;
+    while g < groups as usize {
+        let end = starts[g + 1] as usize;
+        // To the group's end, or to a slot that repeats a tag. What is remembered is changed outside this loop, which is the hot one.
+        while j < end {
+            match fault_at(starts, seeds, tags, groups, g, j) {
+                SlotFault::Misplaced(k) => return SlotFault::Misplaced(k),
+                SlotFault::Repeated(_) => break,
+                SlotFault::Nowhere => j += 1,
+            }
         }
-        g += 1;
-    }
-    Lowest::Nowhere
-}
-
-// The lowest slot whose tag stands in a lower slot of its group, where every slot holds a tag at one of its places.
-pub fn repeated_slot(tags: &[u32], image: &[u8], count: u32, groups: u32) -> Lowest
-    requires { ⌜ Regular (now image) count groups ⌝ }
-    requires { ⌜ AllPlaced (viewOf (now image)) ⌝ }
-    requires { ⌜ SlotsRead (viewOf (now image)) (now tags) ⌝ }
-    ensures answer { λ r. ⌜ lowestMeaning r ≡ first (repeated (viewOf (now (image .entry)))) count ⌝ }
-{
-    let mut g = 0;
-    while g < groups {
-        let group = group_at(image, count, groups, g);
-        if let Lowest::At(j) = repeated_in(tags, image, groups, group) {
-            return Lowest::At(j);
+        if j < end {
+            fault = or_repeated(fault, j);
+            j += 1;
+        } else {
+            g += 1;
         }
-        g += 1;
     }
-    Lowest::Nowhere
+    fault
 }
 
-// Group g as the lines state it.
-pub fn group_at(image: &[u8], count: u32, groups: u32, g: u32) -> Group
-    requires { ⌜ Opens (now image) count groups ⌝ }
-    requires { ⌜ g < groups ⌝ }
-    ensures answer { λ r. ⌜ GroupIs (viewOf (now (image .entry))) g r ⌝ }
+// The fault of slot j, which lies in group g, where no lower slot is misplaced. A lower slot with the tag can then only be the tag's
+// other place.
+fn fault_at(
+    starts: &[u32; START_CELLS],
+    seeds: &[u32; SEED_CELLS],
+    tags: &[u32; TAG_CELLS],
+    groups: u32,
+    g: usize,
+    j: usize,
+) -> SlotFault
+    requires { ⌜ Regular (now starts) (now seeds) groups ⌝ }
+    requires { ⌜ InGroup (now starts) (now seeds) groups g j ⌝ }
+    requires { ⌜ first (misplaced (cellsView (now starts) (now seeds) (now tags) groups)) j ≡ none ⌝ }
+    ensures answer { λ r. ⌜ r ≡ faultAt (cellsView (now (starts .entry)) (now (seeds .entry)) (now (tags .entry)) groups) j ⌝ }
 {
-    let line = group_line(image, g);
-    let end = group_end(image, count, groups, g);
-    Group {
-        number: g,
-        start: line.start,
-        end,
-        seed: line.seed,
+    let tag = tags[j];
+    let start = starts[g];
+    let size = starts[g + 1] - start;
+    let first = (start + hash::place_of(size, seeds[g], 0, tag)) as usize;
+    let second = (start + hash::place_of(size, seeds[g], 1, tag)) as usize;
+    if hash::group_of(groups, tag) as usize != g {
+        return SlotFault::Misplaced(j);
     }
-}
-
-// The start and the seed of group g; 0 and 0 where its line is malformed, and then an earlier check refuses.
-fn group_line(image: &[u8], g: u32) -> GroupLine
-    ensures answer { λ r. ⌜ LineIs (viewOf (now (image .entry))) g r ⌝ }
-{
-    let Pair::Numbers(start, seed) = text::read_group_line(image, 11 * (1 + g as usize)) else {
-        return GroupLine { start: 0, seed: 0 };
-    };
-    GroupLine { start, seed }
-}
-
-// Where group g ends: at the next group's start, or at N after the last group.
-fn group_end(image: &[u8], count: u32, groups: u32, g: u32) -> u32
-    requires { ⌜ Opens (now image) count groups ⌝ }
-    requires { ⌜ g < groups ⌝ }
-    ensures answer { λ r. ⌜ r ≡ endIn (viewOf (now (image .entry))) g ⌝ }
-{
-    let next = g + 1;
-    if next == groups {
-        return count;
+    // The product is 0 where the slot is one of the two. Which of them it is cannot be foretold, so there is no branch on it.
+    if (first ^ j) * (second ^ j) != 0 {
+        return SlotFault::Misplaced(j);
     }
-    let line = group_line(image, next);
-    line.start
-}
-
-// The lowest misplaced slot up to the end of a group, where none is before it.
-fn misplaced_in(tags: &[u32], image: &[u8], groups: u32, group: Group) -> Lowest
-    requires { ⌜ RegularGroup (viewOf (now image)) groups group ⌝ }
-    requires { ⌜ first (misplaced (viewOf (now image))) (group .start) ≡ none ⌝ }
-    requires { ⌜ SlotsRead (viewOf (now image)) (now tags) ⌝ }
-    ensures answer { λ r. ⌜ lowestMeaning r ≡ first (misplaced (viewOf (now (image .entry)))) (group .end) ⌝ }
-{
-    let end = group.end;
-    let mut j = group.start;
-    while j < end {
-        if misplaced_at(tags, image, groups, group, j) {
-            return Lowest::At(j);
+    let other = first + second - j;
+    if tags[other] == tag {
+        if other < j {
+            return SlotFault::Repeated(j);
         }
-        j += 1;
     }
-    Lowest::Nowhere
+    SlotFault::Nowhere
 }
 
-// Is slot j of a group misplaced?
-fn misplaced_at(tags: &[u32], image: &[u8], groups: u32, group: Group, j: u32) -> bool
-    requires { ⌜ RegularGroup (viewOf (now image)) groups group ⌝ }
-    requires { ⌜ (group .start ≤ j) × (j < group .end) ⌝ }
-    requires { ⌜ SlotsRead (viewOf (now image)) (now tags) ⌝ }
-    ensures answer { λ r. ⌜ r ≡ misplaced (viewOf (now (image .entry))) j ⌝ }
+// The fault of the slots before slot j, or where they have none, that slot j repeats a tag.
+fn or_repeated(before: SlotFault, j: usize) -> SlotFault
+    ensures answer { λ r. ⌜ r ≡ orRepeated before j ⌝ }
 {
-    let tag = tags[j as usize];
-    if hash::group_of(groups, tag) != group.number {
-        return true;
+    match before {
+        SlotFault::Nowhere => SlotFault::Repeated(j),
+        SlotFault::Repeated(i) => SlotFault::Repeated(i),
+        SlotFault::Misplaced(i) => SlotFault::Misplaced(i),
     }
-    let n = group.end - group.start;
-    if j == group.start + hash::place_of(n, group.seed, 0, tag) {
-        return false;
-    }
-    j != group.start + hash::place_of(n, group.seed, 1, tag)
-}
-
-// The lowest slot up to the end of a group that repeats a tag, where none before the group does.
-fn repeated_in(tags: &[u32], image: &[u8], groups: u32, group: Group) -> Lowest
-    requires { ⌜ RegularGroup (viewOf (now image)) groups group ⌝ }
-    requires { ⌜ AllPlaced (viewOf (now image)) ⌝ }
-    requires { ⌜ first (repeated (viewOf (now image))) (group .start) ≡ none ⌝ }
-    requires { ⌜ SlotsRead (viewOf (now image)) (now tags) ⌝ }
-    ensures answer { λ r. ⌜ lowestMeaning r ≡ first (repeated (viewOf (now (image .entry)))) (group .end) ⌝ }
-{
-    let end = group.end;
-    let mut j = group.start;
-    while j < end {
-        if repeated_at(tags, image, groups, group, j) {
-            return Lowest::At(j);
-        }
-        j += 1;
-    }
-    Lowest::Nowhere
-}
-
-// Does slot j of a group repeat a tag? Another slot with its tag can only be the tag's other place.
-fn repeated_at(tags: &[u32], image: &[u8], groups: u32, group: Group, j: u32) -> bool
-    requires { ⌜ RegularGroup (viewOf (now image)) groups group ⌝ }
-    requires { ⌜ AllPlaced (viewOf (now image)) ⌝ }
-    requires { ⌜ (group .start ≤ j) × (j < group .end) ⌝ }
-    requires { ⌜ SlotsRead (viewOf (now image)) (now tags) ⌝ }
-    ensures answer { λ r. ⌜ r ≡ repeated (viewOf (now (image .entry))) j ⌝ }
-{
-    let tag = tags[j as usize];
-    let n = group.end - group.start;
-    let first = group.start + hash::place_of(n, group.seed, 0, tag);
-    if stands_before(tags, image, first, j, tag) {
-        return true;
-    }
-    let second = group.start + hash::place_of(n, group.seed, 1, tag);
-    stands_before(tags, image, second, j, tag)
-}
-
-// Is slot i before slot j, with this tag?
-fn stands_before(tags: &[u32], image: &[u8], i: u32, j: u32, tag: u32) -> bool
-    requires { ⌜ SlotsRead (viewOf (now image)) (now tags) ⌝ }
-    requires { ⌜ j < countIn (viewOf (now image)) ⌝ }
-    ensures answer { λ r. ⌜ r ≡ standsBefore (viewOf (now (image .entry))) i j tag ⌝ }
-{
-    if j <= i {
-        return false;
-    }
-    tags[i as usize] == tag
 }

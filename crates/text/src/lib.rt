@@ -12,7 +12,7 @@ ghost use Rattle.text.specs.Line.{lineLength, pairLine, tagLine, ended, 
 ghost use Rattle.text.specs.Answer.{fieldMeaning, pairMeaning, tagMeaning};
 
 // Every line is ten columns and a line feed.
-const LINE_LENGTH: usize = 11;
+pub const LINE_LENGTH: usize = 11;
 
 // What a field reads as.
 pub enum Field {

@@ -4,40 +4,53 @@ use mathlib.Core.Path.{refl, sym, _∙_}
 use Prim.Native.Nat.{_-_}
 use native.Mathlib.Omega.{arith}
 use Rattle.refusal.specs.First.{first}
-use Rattle.image.specs.View.{viewOf}
 use Rattle.refusal.specs.Search.{Searched, searched-start, searched-turn, searched-found, searched-done}
-use Rattle.checking.specs.Steps.{faultyIn}
-use Rattle.checking.specs.StepsLaws.{fault-tested}
+use Rattle.checking.specs.Steps.{faultyAt}
 use Rattle.checking.proofs.faulty_group.Statement.{statement}
 use Rattle.checking.proofs.faulty_group.Tie as tie
+use Rattle.checking.proofs.faulty_group.Reads as reads
+use Rattle.checking.proofs.faulty_group.Lts as lts
+use Rattle.opening.proofs.faulty.Reads as faulty-reads
 
 abbrev Inv-loop : tie.InvT-loop
-Inv-loop image count groups g₀ g = Searched (faultyIn (viewOf image)) 0 groups g
+Inv-loop starts groups g₀ g = Searched (faultyAt starts) 0 groups g
 
 abbrev μ-loop : tie.MeasureT-loop
-μ-loop image count groups g₀ g = groups - g
+μ-loop starts groups g₀ g = groups - g
 
 loop-holds : tie.Need-loop-holds Inv-loop μ-loop
 unfolding first
 loop-holds c =
-    let a = c .before .args in
-    searched-start (faultyIn (viewOf (a .image .now))) 0 (a .groups) (omega arith) refl
+    let a = c .args in searched-start (faultyAt (a .starts .now)) 0 (a .groups) (omega arith) refl
 
-group-at-requires : tie.Need-group-at-requires Inv-loop μ-loop
-group-at-requires c κs = (c .before .before .before .pre, c .loop-test .taken)
+cast-at : tie.Need-cast-at Inv-loop μ-loop
+cast-at c = search needs
+
+mul-faulty : tie.Need-mul-faulty Inv-loop μ-loop
+mul-faulty c = search needs
+
+element-copy-out-faulty : tie.Need-element-copy-out-faulty Inv-loop μ-loop
+element-copy-out-faulty c = search needs
+
+add-faulty : tie.Need-add-faulty Inv-loop μ-loop
+add-faulty c = search needs
+
+mul-faulty-2 : tie.Need-mul-faulty-2 Inv-loop μ-loop
+mul-faulty-2 c = search needs
+
+element-copy-out-faulty-2 : tie.Need-element-copy-out-faulty-2 Inv-loop μ-loop
+element-copy-out-faulty-2 c = search needs
 
 faulty-requires : tie.Need-faulty-requires Inv-loop μ-loop
 faulty-requires c κs = search needs
 
 returns : tie.Need-returns Inv-loop μ-loop
 returns c =
-    let judged = c .before in
-    let read = judged .before in
-    let turn = read .before in
+    let turn = c .before .before .before .before in
     let loop = turn .before in
-    let a = loop .before .before .args in
-    sym (searched-found (faultyIn (viewOf (a .image .now))) 0 (a .groups) (loop .loop .g) (loop .loop .inv) (turn .loop-test .taken)
-    (fault-tested (viewOf (a .image .now)) (loop .loop .g) (read .group-at .result) (read .group-at .ensures) ∙ sym (judged .faulty .ensures) ∙ c .if1 .taken))
+    let a = loop .before .args in
+    sym (searched-found (faultyAt (a .starts .now)) 0 (a .groups) (loop .loop .g) (loop .loop .inv) (turn .loop-test .taken)
+    (sym (c .before .faulty .ensures) ∙ c .if1 .taken))
 
 add-g : tie.Need-add-g Inv-loop μ-loop
 add-g c = search needs
@@ -47,19 +60,17 @@ loop-less c = search needs
 
 loop-again : tie.Need-loop-again Inv-loop μ-loop
 loop-again c =
-    let judged = c .before in
-    let read = judged .before in
-    let turn = read .before in
+    let turn = c .before .before .before .before in
     let loop = turn .before in
-    let a = loop .before .before .args in
-    searched-turn (faultyIn (viewOf (a .image .now))) 0 (a .groups) (loop .loop .g) (loop .loop .inv) (turn .loop-test .taken)
-    (fault-tested (viewOf (a .image .now)) (loop .loop .g) (read .group-at .result) (read .group-at .ensures) ∙ sym (judged .faulty .ensures) ∙ c .if1 .left)
+    let a = loop .before .args in
+    searched-turn (faultyAt (a .starts .now)) 0 (a .groups) (loop .loop .g) (loop .loop .inv) (turn .loop-test .taken)
+    (sym (c .before .faulty .ensures) ∙ c .if1 .left)
 
 returns-2 : tie.Need-returns-2 Inv-loop μ-loop
 returns-2 c =
     let loop = c .before in
-    let a = loop .before .before .args in
-    sym (searched-done (faultyIn (viewOf (a .image .now))) 0 (a .groups) (loop .loop .g) (loop .loop .inv) (c .loop-test .left))
+    let a = loop .before .args in
+    sym (searched-done (faultyAt (a .starts .now)) 0 (a .groups) (loop .loop .g) (loop .loop .inv) (c .loop-test .left))
 
 pub faulty-group-spec : {M : Type 1} → statement M
 faulty-group-spec =
@@ -68,7 +79,12 @@ faulty-group-spec =
     Inv-loop
     μ-loop
     loop-holds
-    group-at-requires
+    cast-at
+    mul-faulty
+    element-copy-out-faulty
+    add-faulty
+    mul-faulty-2
+    element-copy-out-faulty-2
     faulty-requires
     returns
     add-g
