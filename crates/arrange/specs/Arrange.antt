@@ -5,11 +5,11 @@ use mathlib.Core.Bool.{true}
 use mathlib.Core.List.{List, flatten}
 use lib.ListN.{length, getD}
 use Rattle.refusal.specs.Limits.{groupMax, seedMax}
-use Rattle.filling.specs.Places.{distinct}
+use Rattle.lists.specs.Occurs.{distinct}
 use Rattle.filling.specs.Least.{feasible}
 use Rattle.filling.specs.Word.{wordOf}
 use Rattle.group.specs.Group.{groupUnder, taken}
-use Rattle.image.specs.Sheet.{upTo}
+use Rattle.lists.specs.UpTo.{upTo}
 use Rattle.building.specs.Parts.{partOf, Parts}
 use Rattle.building.specs.GroupSlots.{groupSlots}
 

@@ -9,8 +9,8 @@ use lib.Seq.{ext-getD}
 use borrow.Author.Tests.{eq-eqb, ne-eqb}
 use Rattle.hash.specs.Formula.{hashed, multiplier, placeOf}
 use Rattle.hash.specs.FormulaLaws.{place-below}
-use Rattle.filling.specs.Places.{distinct}
-use Rattle.filling.specs.PlacesLaws.{occurs-not, distinct-head, distinct-tail, getD-occurs, occurs-getD, distinct-getD, onto}
+use Rattle.lists.specs.Occurs.{distinct}
+use Rattle.lists.specs.OccursLaws.{occurs-not, distinct-head, distinct-tail, getD-occurs, occurs-getD, distinct-getD, onto}
 use Rattle.filling.specs.Filling.{placeBy, chosen, Fills}
 use Rattle.filling.specs.FillingLaws.{chosen-length, chosen-at, chosen-candidate}
 use Rattle.filling.specs.Word.{choiceNumber, wordOf}
@@ -20,8 +20,8 @@ use Rattle.group.specs.Group.{bothPlaces, groupUnder, taken}
 use Rattle.group.specs.GroupLaws.{candidates-length, candidate-place, each-candidate, fills-length, taken-fills}
 use Rattle.insertion.specs.WordBits.{choiceIn}
 use Rattle.insertion.specs.WordBitsLaws.{choice-shifted}
-use Rattle.image.specs.Sheet.{upTo}
-use Rattle.image.specs.SheetLaws.{upTo-length, upTo-at}
+use Rattle.lists.specs.UpTo.{upTo}
+use Rattle.lists.specs.UpToLaws.{upTo-length, upTo-at}
 use Rattle.building.specs.Number.{choiceOf, placeIn, tagNumbered}
 use Rattle.building.specs.NumberLaws.{ImageOf, place-apart, place-inside, tagNumbered-is}
 use Rattle.building.specs.GroupSlots.{groupSlots}

@@ -4,8 +4,8 @@ use mathlib.Core.Path.{_≡_, refl, ap}
 use mathlib.Core.List.{List, [], _++_, flatten}
 use native.Mathlib.Omega.{arith}
 use lib.ListN.{length, getD, drop, length-append, length-drop}
-use Rattle.image.specs.Sheet.{upTo}
-use Rattle.image.specs.SheetLaws.{flatten-more}
+use Rattle.lists.specs.UpTo.{upTo}
+use Rattle.lists.specs.UpToLaws.{flatten-more}
 use Rattle.building.specs.Parts.{partStart, partOf, Parts}
 use Rattle.arrange.specs.Arrange.{slotsOfPart, allSlots}
 use Rattle.building.specs.SlotsLaws.{slots-length as groupSlots-length}

@@ -1,23 +1,21 @@
 -- The 64-bit answers keep apart all outcomes that the three functions can come to: an answer is taken apart into its outcome.
 -- Assumes nothing.
 use mathlib.Core.Path.{_≡_, refl, sym, _∙_, ap}
-use mathlib.Core.Bool.{Bool, cond, not}
+use mathlib.Core.Bool.{not}
 use mathlib.Core.List.{List, [], _∷_}
 use Prim.Native.Nat.{ℕ, _+_, _*_, _/_, _%_, _≤_, _<_}
 use native.Mathlib.Omega.{arith}
-use lib.Dec.{eqb, ltb}
-use lib.ListN.{length}
+use lib.Dec.{eqb}
 use borrow.Author.Tests.{lt-ltb, le-ltb}
-use Rattle.refusal.specs.Limits.{tagEnd, tagsMax, textMax}
+use Rattle.refusal.specs.Limits.{tagEnd, tagsMax}
 use Rattle.refusal.specs.Outcome.{Outcome, answered, refused, answeredBy, followedBy}
-use Rattle.refusal.specs.First.{metAt, isSome}
-use Rattle.refusal.specs.Checks.{met, inOrder}
+use Rattle.lists.specs.First.{metAt, isSome}
 use Rattle.refusal.specs.ChecksLaws.{inOrder-answered}
 use Rattle.refusal.specs.PlaceLaws.{PlaceBelow, Numbered, numbered-checks, numbered-followed, numbered-cond}
 use Rattle.group.specs.Ascending.{limitCheck, ascendingCheck}
 use Rattle.list.specs.Reading.{Listed, readingChecks, readingOf}
 use Rattle.hash.specs.Formula.{groupOf}
-use Rattle.image.specs.View.{View, viewOf, countIn, groupsIn, startIn, endIn, slotLineIn, slotIn, candidateIn}
+use Rattle.image.specs.View.{View, viewOf, groupsIn, startIn, endIn, slotLineIn, slotIn}
 use Rattle.image.specs.Checking.{openingChecks, checkingChecks, checkingOf}
 use Rattle.image.specs.Lookup.{Found, number, unknown, groupChecks, lookupChecks, atSlot, lookupInGroup, lookupOf}
 use Rattle.image.specs.CheckedLookup.{count-most}

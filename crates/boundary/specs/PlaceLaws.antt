@@ -7,8 +7,8 @@ use native.Mathlib.Omega.{arith}
 use lib.Dec.{eqb, ltb}
 use borrow.Author.Tests.{ltb-false, eqb-false}
 use Rattle.refusal.specs.Outcome.{Outcome, answered}
-use Rattle.refusal.specs.BoolLaws.{neither-of-or}
-use Rattle.refusal.specs.First.{metAt, isSome}
+use Rattle.lists.specs.BoolLaws.{neither-of-or}
+use Rattle.lists.specs.First.{metAt, isSome}
 use Rattle.refusal.specs.Checks.{inOrder}
 use Rattle.refusal.specs.ChecksLaws.{inOrder-pass, inOrder-append, false-of-metAt}
 use Rattle.hash.specs.Formula.{groupOf}

@@ -5,7 +5,7 @@ use mathlib.Core.Option.{none}
 use Prim.Native.Nat.{ℕ, _≤_, _<_}
 use lib.ListN.{length}
 use Rattle.refusal.specs.Limits.{tagsMax}
-use Rattle.refusal.specs.First.{first}
+use Rattle.lists.specs.First.{first}
 use Rattle.building.specs.Members.{members, startOf}
 use Rattle.building.specs.Parts.{partStart, partOf, Parts}
 use Rattle.building.specs.Building.{tooLarge}

@@ -6,8 +6,8 @@ use Prim.Native.Nat.{ℕ, _<_}
 use lib.ListN.{length, getD}
 use Rattle.refusal.specs.Limits.{tagEnd}
 use Rattle.refusal.specs.Outcome.{Outcome, refused}
-use Rattle.filling.specs.Places.{occurs}
-use Rattle.filling.specs.PlacesLaws.{occurs-getD}
+use Rattle.lists.specs.Occurs.{occurs}
+use Rattle.lists.specs.OccursLaws.{occurs-getD}
 use Rattle.building.specs.Building.{buildingOf, bufferAfter}
 use Rattle.building.specs.BuildingLaws.{buffer-kept}
 use Rattle.condition3.specs.Condition3.{Condition3}

@@ -7,7 +7,7 @@ use lib.Dec.{ltb}
 use lib.ListN.{length, drop}
 use Rattle.refusal.specs.Limits.{tagsMax, groupsMax, groupMax, outside}
 use Rattle.refusal.specs.Outcome.{Outcome, answered, refused}
-use Rattle.refusal.specs.First.{first, isSome}
+use Rattle.lists.specs.First.{first, isSome}
 use Rattle.refusal.specs.Checks.{Check, met, inOrder}
 use Rattle.group.specs.Group.{leastSeed, taken}
 use Rattle.group.specs.Ascending.{limitCheck, ascendingCheck}

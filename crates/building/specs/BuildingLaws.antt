@@ -10,8 +10,8 @@ use borrow.Author.Tests.{lt-ltb, le-ltb, ltb-false, not-false}
 use Rattle.refusal.specs.Limits.{tagsMax, groupsMax, limitMax, outside}
 use Rattle.refusal.specs.LimitsLaws.{inside}
 use Rattle.refusal.specs.Outcome.{answered, refused}
-use Rattle.refusal.specs.First.{first, metAt, isSome}
-use Rattle.refusal.specs.FirstLaws.{first-none, some-of-isSome}
+use Rattle.lists.specs.First.{first, metAt, isSome}
+use Rattle.lists.specs.FirstLaws.{first-none, some-of-isSome}
 use Rattle.refusal.specs.Checks.{met, inOrder}
 use Rattle.refusal.specs.ChecksLaws.{false-of-met, passed, inOrder-answered}
 use Rattle.group.specs.Group.{leastSeed}

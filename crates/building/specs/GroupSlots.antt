@@ -3,7 +3,7 @@ use Prim.Native.Nat.{ℕ}
 use mathlib.Core.Bool.{Bool}
 use mathlib.Core.List.{List}
 use lib.ListN.{length}
-use Rattle.image.specs.Sheet.{upTo}
+use Rattle.lists.specs.UpTo.{upTo}
 use Rattle.building.specs.Number.{placeIn, tagNumbered}
 
 -- The tags of a group in the order of their places, under a seed and a choice sequence: for each place the tag that has it.

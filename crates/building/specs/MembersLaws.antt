@@ -11,8 +11,8 @@ use lib.ListN.{length, getD}
 use borrow.Author.Tests.{eqb-true, eqb-false, eq-eqb, ltb-true, ltb-false, lt-ltb, le-ltb}
 use Rattle.hash.specs.Formula.{groupOf}
 use Rattle.hash.specs.FormulaLaws.{group-below}
-use Rattle.filling.specs.Places.{occurs, distinct}
-use Rattle.filling.specs.PlacesLaws.{occurs-here, occurs-there, occurs-cases, occurs-not, distinct-head, distinct-tail, distinct-cons}
+use Rattle.lists.specs.Occurs.{occurs, distinct}
+use Rattle.lists.specs.OccursLaws.{occurs-here, occurs-there, occurs-cases, occurs-not, distinct-head, distinct-tail, distinct-cons}
 use Rattle.group.specs.AscendingLaws.{Ascending, ascending-above}
 use Rattle.building.specs.Members.{select, members, startOf}
 

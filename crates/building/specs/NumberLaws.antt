@@ -2,23 +2,23 @@
 -- tag. It says nothing of slots. And: sequences that fill give such places. Assumes nothing.
 use mathlib.Core.Path.{_≡_, refl, sym, _∙_, ap}
 use mathlib.Core.Logic.{_⊎_, inl, inr}
-use mathlib.Core.Bool.{Bool, true, false, cond, not-eq-not, true≢false}
+use mathlib.Core.Bool.{Bool, true, false, not-eq-not, true≢false}
 use mathlib.Core.List.{List, [], _∷_, map}
-use Prim.Native.Nat.{ℕ, zero, suc, _+_, _≤_, _<_}
+use Prim.Native.Nat.{ℕ, suc, _+_, _<_}
 use native.Mathlib.Omega.{arith}
 use lib.Dec.{eqb, ltb}
 use lib.ListN.{length, length-map}
 use borrow.Author.Tests.{eqb-true, eqb-false, eq-eqb, ne-eqb, ltb-true, ltb-false}
-use Rattle.hash.specs.Formula.{groupOf, placeOf}
+use Rattle.hash.specs.Formula.{groupOf}
 use Rattle.hash.specs.FormulaLaws.{group-below, place-below}
-use Rattle.filling.specs.Places.{occurs, distinct}
-use Rattle.filling.specs.PlacesLaws.{occurs-here, occurs-there, occurs-cases, occurs-not, distinct-head, distinct-tail, distinct-cons, onto}
+use Rattle.lists.specs.Occurs.{occurs, distinct}
+use Rattle.lists.specs.OccursLaws.{occurs-here, occurs-there, occurs-cases, occurs-not, distinct-head, distinct-tail, distinct-cons, onto}
 use Rattle.filling.specs.Filling.{Key, placeBy, chosen, Fills}
 use Rattle.group.specs.Group.{bothPlaces, candidates, groupUnder}
 use Rattle.group.specs.GroupLaws.{fills-length}
 use Rattle.building.specs.Members.{members, startOf}
-use Rattle.building.specs.MembersLaws.{members-own, member-group, members-distinct, start-all, start-suc, start-before}
-use Rattle.building.specs.Number.{choiceOf, placeIn, numberOf, tagNumbered}
+use Rattle.building.specs.MembersLaws.{members-own, members-distinct, start-all, start-suc, start-before}
+use Rattle.building.specs.Number.{choiceOf, placeIn, tagNumbered}
 
 -- Numbers that a list is mapped to: which occur, and when they are different.
 map-occurs : (f : ℕ → ℕ) (xs : List ℕ) (x : ℕ) → occurs x xs ≡ true → occurs (f x) (map f xs) ≡ true

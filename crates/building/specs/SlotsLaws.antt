@@ -8,9 +8,9 @@ use lib.ListN.{length, getD, length-append, List·getD-append}
 use lib.Seq.{getD-append-add}
 use Rattle.hash.specs.Formula.{groupOf}
 use Rattle.hash.specs.FormulaLaws.{group-below}
-use Rattle.filling.specs.Places.{occurs}
-use Rattle.image.specs.Sheet.{upTo}
-use Rattle.image.specs.SheetLaws.{upTo-length, upTo-at, flatten-more}
+use Rattle.lists.specs.Occurs.{occurs}
+use Rattle.lists.specs.UpTo.{upTo}
+use Rattle.lists.specs.UpToLaws.{upTo-length, upTo-at, flatten-more}
 use Rattle.building.specs.Members.{members, startOf}
 use Rattle.building.specs.MembersLaws.{members-own, members-distinct, start-zero, start-suc}
 use Rattle.building.specs.Number.{placeIn, numberOf, tagNumbered}

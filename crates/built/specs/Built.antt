@@ -12,13 +12,13 @@ use lib.ListN.{length}
 use borrow.Author.Tests.{ltb-true, ltb-false, le-ltb, eq-eqb, ne-eqb}
 use Rattle.refusal.specs.Limits.{tagEnd, tagsMax, groupsMax, groupMax, seedMax}
 use Rattle.refusal.specs.Outcome.{answered}
-use Rattle.refusal.specs.FirstLaws.{first-out, isSome-of-some, isSome-of-none}
+use Rattle.lists.specs.FirstLaws.{first-out, isSome-of-some, isSome-of-none}
 use Rattle.refusal.specs.ChecksLaws.{met-false}
 use Rattle.hash.specs.Formula.{groupOf, placeOf}
 use Rattle.hash.specs.FormulaLaws.{group-below}
 use Rattle.text.specs.Line.{lineLength}
-use Rattle.filling.specs.Places.{occurs}
-use Rattle.filling.specs.PlacesLaws.{occurs-not}
+use Rattle.lists.specs.Occurs.{occurs}
+use Rattle.lists.specs.OccursLaws.{occurs-not}
 use Rattle.filling.specs.Filling.{placeBy}
 use Rattle.group.specs.Group.{bothPlaces}
 use Rattle.image.specs.Sheet.{Sheet, bytesOf, imageLength}

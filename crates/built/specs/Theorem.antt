@@ -13,12 +13,12 @@ use borrow.Author.Tests.{ltb-false, le-ltb, not-true}
 use Rattle.refusal.specs.Limits.{tagEnd, tagsMax, groupsMax, groupMax, limitMax, outside}
 use Rattle.refusal.specs.LimitsLaws.{outside-not, inside}
 use Rattle.refusal.specs.Outcome.{answered, refused}
-use Rattle.refusal.specs.First.{first, isSome}
-use Rattle.refusal.specs.FirstLaws.{first-some, first-none, first-found, first-out, none-of-isSome}
+use Rattle.lists.specs.First.{first, isSome}
+use Rattle.lists.specs.FirstLaws.{first-some, first-none, first-found, first-out, none-of-isSome}
 use Rattle.refusal.specs.Checks.{Check, met, inOrder}
 use Rattle.refusal.specs.ChecksLaws.{met-false, false-of-met, Pass, Met, inOrder-pass, inOrder-answered, inOrder-refused, inOrder-append}
 use Rattle.text.specs.Line.{lineLength}
-use Rattle.filling.specs.Places.{occurs}
+use Rattle.lists.specs.Occurs.{occurs}
 use Rattle.group.specs.Group.{leastSeed, taken}
 use Rattle.group.specs.GroupLaws.{LeastSeed, leastSeed-none}
 use Rattle.group.specs.Ascending.{limitCheck, ascendingCheck}

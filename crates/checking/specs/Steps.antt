@@ -7,7 +7,7 @@ use mathlib.Core.Option.{Option, Option·getD}
 use lib.ListN.{length, getD}
 use Rattle.refusal.specs.Limits.{tagsMax, groupsMax}
 use Rattle.refusal.specs.Outcome.{Outcome, answered, refused}
-use Rattle.refusal.specs.First.{first}
+use Rattle.lists.specs.First.{first}
 use Rattle.refusal.specs.Checks.{Check}
 use Rattle.image.specs.View.{View, countIn, groupsIn, startIn, seedIn, endIn, slotIn, faulty}
 use Rattle.image.specs.Checking.{misplaced, repeated}

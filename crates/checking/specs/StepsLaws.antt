@@ -5,21 +5,20 @@ use mathlib.Core.Bool.{false, not}
 use mathlib.Core.List.{List, [], _∷_}
 use mathlib.Core.Option.{Option, none, some, Option·getD}
 use Prim.Native.Nat.{ℕ, zero, suc, _+_, _≤_, _<_}
-use native.Mathlib.Numerals.{add-one}
 use native.Mathlib.Omega.{arith}
 use native.Mathlib.Nat.{eq-or-lt-of-le}
 use lib.ListN.{length, getD, set, length-set}
 use lib.Seq.{getD-set-same, getD-set-other}
 use borrow.Author.Tests.{lt-ltb, le-ltb}
 use Rattle.refusal.specs.Limits.{seedMax, groupsMax}
-use Rattle.refusal.specs.Outcome.{Outcome, answered, refused}
-use Rattle.refusal.specs.First.{first, isSome}
-use Rattle.refusal.specs.FirstLaws.{first-none, first-out, first-more, first-cong}
+use Rattle.refusal.specs.Outcome.{answered, refused}
+use Rattle.lists.specs.First.{first, isSome}
+use Rattle.lists.specs.FirstLaws.{first-none, first-out, first-more, first-cong}
 use Rattle.refusal.specs.Checks.{inOrder}
 use Rattle.refusal.specs.ChecksLaws.{inOrder-append}
 use Rattle.text.specs.Line.{lineAt, groupLine, slotLine}
 use Rattle.text.specs.LineLaws.{group-only}
-use Rattle.image.specs.View.{View, viewOf, countIn, groupsIn, startIn, seedIn, endIn, slotLineIn, slotIn, faulty}
+use Rattle.image.specs.View.{View, viewOf, groupsIn, startIn, seedIn, endIn, slotLineIn, slotIn, faulty}
 use Rattle.image.specs.Checking.{openingChecks, malformedIn, misplaced, repeated, checkingChecks, checkingOf}
 use Rattle.image.specs.FaultLaws.{fair-of-faulty}
 use Rattle.image.specs.SameNumbersLaws.{SameNumbers, same-faulty, same-misplaced, same-repeated}

@@ -17,7 +17,7 @@ ghost use lib.ListN.{length};
 ghost use Rattle.refusal.specs.Limits.{tagsMax, groupsMax};
 ghost use Rattle.refusal.specs.Outcome.{answered, refused};
 ghost use Rattle.refusal.specs.Reason.{reasonNumber};
-ghost use Rattle.refusal.specs.First.{first};
+ghost use Rattle.lists.specs.First.{first};
 ghost use Rattle.refusal.specs.Answer.{firstMeaning};
 ghost use Rattle.refusal.specs.Checks.{inOrder};
 ghost use Rattle.image.specs.View.{viewOf};

@@ -3,7 +3,7 @@ use Prim.Native.Nat.{ℕ}
 use mathlib.Core.Bool.{cond}
 use mathlib.Core.List.{List}
 use Rattle.refusal.specs.Outcome.{Outcome, answered, followedBy}
-use Rattle.filling.specs.Places.{occurs}
+use Rattle.lists.specs.Occurs.{occurs}
 use Rattle.image.specs.Lookup.{Found, number, unknown}
 use Rattle.building.specs.Number.{numberOf}
 use Rattle.building.specs.Building.{seedTaken, choicesTaken, buildingOf}

@@ -7,7 +7,7 @@ use native.Mathlib.Omega.{arith}
 use lib.ListN.{length, take, drop, length-append}
 use Rattle.refusal.specs.Limits.{tagEnd}
 use Rattle.refusal.specs.Outcome.{answered, refused, followedBy}
-use Rattle.filling.specs.Places.{occurs}
+use Rattle.lists.specs.Occurs.{occurs}
 use Rattle.image.specs.Lookup.{lookupOf}
 use Rattle.building.specs.Building.{imageOf, buildingOf, bufferAfter}
 use Rattle.building.specs.BuildingLaws.{image-length, buffer-written, answered-size}

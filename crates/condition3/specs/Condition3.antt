@@ -10,7 +10,7 @@ use lib.ListN.{length, getD, take}
 use Rattle.refusal.specs.Limits.{tagEnd}
 use Rattle.refusal.specs.Outcome.{Outcome, answered, refused}
 use Rattle.text.specs.Line.{lineAt, pairLine}
-use Rattle.filling.specs.Places.{occurs}
+use Rattle.lists.specs.Occurs.{occurs}
 use Rattle.filling.specs.Filling.{Fills}
 use Rattle.filling.specs.Least.{NotAfter}
 use Rattle.group.specs.Group.{groupUnder}

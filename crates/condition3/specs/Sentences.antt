@@ -12,11 +12,11 @@ use lib.ListN.{length, getD, take}
 use borrow.Author.Tests.{ltb-true, ltb-false, not-true, not-false}
 use Rattle.refusal.specs.Limits.{tagEnd}
 use Rattle.refusal.specs.Outcome.{Outcome, answered, refused}
-use Rattle.refusal.specs.First.{first, isSome}
-use Rattle.refusal.specs.FirstLaws.{first-some, first-none, some-of-isSome, none-of-isSome}
+use Rattle.lists.specs.First.{first, isSome}
+use Rattle.lists.specs.FirstLaws.{first-some, first-none, some-of-isSome, none-of-isSome}
 use Rattle.text.specs.Line.{lineAt, pairLine}
 use Rattle.hash.specs.Formula.{groupOf}
-use Rattle.filling.specs.Places.{occurs}
+use Rattle.lists.specs.Occurs.{occurs}
 use Rattle.filling.specs.Filling.{Fills}
 use Rattle.filling.specs.Least.{NotAfter}
 use Rattle.group.specs.Group.{groupUnder, leastSeed}

@@ -5,7 +5,7 @@ use mathlib.Core.Path.{_≡_}
 use mathlib.Core.Bool.{Bool, true, false}
 use mathlib.Core.List.{List, [], _∷_}
 use lib.ListN.{length}
-use Rattle.filling.specs.Places.{distinct}
+use Rattle.lists.specs.Occurs.{distinct}
 
 -- A key: its first and its second candidate place. They may be equal, and two keys may have the same pair.
 abbrev pub Key : Type 0

@@ -5,8 +5,8 @@ use mathlib.Core.Bool.{Bool, true, false}
 use mathlib.Core.List.{List, [], _∷_}
 use native.Mathlib.Omega.{arith}
 use lib.ListN.{length, getD}
-use Rattle.filling.specs.Places.{occurs}
-use Rattle.filling.specs.PlacesLaws.{pigeonhole, occurs-getD, distinct-getD, getD-distinct, onto}
+use Rattle.lists.specs.Occurs.{occurs}
+use Rattle.lists.specs.OccursLaws.{pigeonhole, occurs-getD, distinct-getD, getD-distinct, onto}
 use Rattle.filling.specs.Filling.{Key, placeBy, chosen, Fills}
 
 -- The place that the key with index i takes.

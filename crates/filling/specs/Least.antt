@@ -4,8 +4,8 @@ use Prim.Native.Nat.{ℕ}
 use mathlib.Core.Bool.{Bool, true, false, cond}
 use mathlib.Core.List.{List, [], _∷_}
 use mathlib.Core.Option.{Option, none, some, orElse, Option·map}
-use Rattle.refusal.specs.First.{isSome}
-use Rattle.filling.specs.Places.{occurs}
+use Rattle.lists.specs.First.{isSome}
+use Rattle.lists.specs.Occurs.{occurs}
 use Rattle.filling.specs.Filling.{Key, placeBy}
 
 -- "compared from the lowest tag on, 0 before 1": the order of choice sequences of one length.

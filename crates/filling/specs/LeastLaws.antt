@@ -8,9 +8,9 @@ use mathlib.Core.List.{List, [], _∷_}
 use mathlib.Core.Option.{Option, none, some, orElse, Option·map}
 use native.Mathlib.Omega.{arith}
 use lib.ListN.{length}
-use Rattle.refusal.specs.FirstLaws.{some-of-isSome, none-of-isSome}
-use Rattle.filling.specs.Places.{occurs, distinct}
-use Rattle.filling.specs.PlacesLaws.{occurs-here, occurs-there, occurs-cases, occurs-not, absent-cons, absent-tail, distinct-head, distinct-tail, distinct-cons}
+use Rattle.lists.specs.FirstLaws.{some-of-isSome, none-of-isSome}
+use Rattle.lists.specs.Occurs.{occurs, distinct}
+use Rattle.lists.specs.OccursLaws.{occurs-here, occurs-there, occurs-cases, occurs-not, absent-cons, absent-tail, distinct-head, distinct-tail, distinct-cons}
 use Rattle.filling.specs.Filling.{Key, placeBy, chosen, Fills}
 use Rattle.filling.specs.Least.{NotAfter, beginning, leastFrom, least, feasible}
 

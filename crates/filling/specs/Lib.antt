@@ -1,5 +1,3 @@
-pub mod Places
-pub mod PlacesLaws
 pub mod Filling
 pub mod FillingLaws
 pub mod Least

@@ -8,8 +8,8 @@ use mathlib.Core.Bool.{Bool, true, false, cond, not-eq-not, true≢false}
 use mathlib.Core.List.{List, [], _∷_}
 use native.Mathlib.Omega.{arith}
 use lib.ListN.{length, getD}
-use Rattle.filling.specs.Places.{occurs, distinct}
-use Rattle.filling.specs.PlacesLaws.{occurs-here, occurs-there, occurs-cases, occurs-not, distinct-cons, pigeonhole, numbersBelow, numbersBelow-length, numbersBelow-occurs}
+use Rattle.lists.specs.Occurs.{occurs, distinct}
+use Rattle.lists.specs.OccursLaws.{occurs-here, occurs-there, occurs-cases, occurs-not, distinct-cons, pigeonhole, numbersBelow, numbersBelow-length, numbersBelow-occurs}
 use Rattle.filling.specs.Filling.{Key, placeBy, Fills}
 use Rattle.filling.specs.FillingLaws.{EachCandidate, fills-touches}
 use Rattle.filling.specs.Touched.{candidatePlaces, once, touched}

@@ -9,7 +9,7 @@ use borrow.Author.Tests.{lt-ltb, le-ltb}
 use Rattle.refusal.specs.Limits.{textMax, tagsMax}
 use Rattle.refusal.specs.Outcome.{Outcome, answered, refused, answeredBy}
 use Rattle.refusal.specs.OutcomeLaws.{answered-of-by, followed-answered, followed-refused}
-use Rattle.refusal.specs.First.{metAt}
+use Rattle.lists.specs.First.{metAt}
 use Rattle.refusal.specs.Checks.{met, inOrder}
 use Rattle.list.specs.Reading.{Listed, readingOf, cellsAfter}
 use Rattle.list.specs.Answer.{ListHead, headOf}

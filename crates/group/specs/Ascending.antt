@@ -2,11 +2,10 @@
 use Prim.Native.Nat.{ℕ, zero, suc}
 use mathlib.Core.Bool.{Bool, false}
 use mathlib.Core.List.{List}
-use mathlib.Core.Option.{Option}
 use lib.Dec.{leb}
 use lib.ListN.{length, getD}
 use Rattle.refusal.specs.Limits.{limitMax, outside}
-use Rattle.refusal.specs.First.{first}
+use Rattle.lists.specs.First.{first}
 use Rattle.refusal.specs.Checks.{Check, met}
 
 -- "4: L not 1 to 65,536."

@@ -1,16 +1,16 @@
 -- When a list passes check 6, and what follows for its tags. Assumes nothing.
 use mathlib.Core.Path.{_≡_, refl}
 use mathlib.Core.Bool.{Bool, true, false}
-use mathlib.Core.List.{List, [], _∷_}
+use mathlib.Core.List.{List}
 use mathlib.Core.Option.{none}
 use Prim.Native.Nat.{ℕ, zero, suc, _-_, _≤_, _<_}
 use native.Mathlib.Omega.{arith}
 use lib.Dec.{ltb}
 use lib.ListN.{length, getD}
 use borrow.Author.Tests.{leb-false, le-leb, lt-leb, ltb-true, ltb-false}
-use Rattle.refusal.specs.FirstLaws.{first-none, first-out}
-use Rattle.filling.specs.Places.{distinct}
-use Rattle.filling.specs.PlacesLaws.{getD-distinct}
+use Rattle.lists.specs.FirstLaws.{first-none, first-out}
+use Rattle.lists.specs.Occurs.{distinct}
+use Rattle.lists.specs.OccursLaws.{getD-distinct}
 use Rattle.group.specs.Ascending.{notAbove, ascendingCheck}
 
 -- "strictly ascending"

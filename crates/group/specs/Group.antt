@@ -4,7 +4,7 @@ use mathlib.Core.Bool.{Bool}
 use mathlib.Core.List.{List, [], map}
 use mathlib.Core.Option.{Option, Option·getD}
 use lib.ListN.{length}
-use Rattle.refusal.specs.First.{first}
+use Rattle.lists.specs.First.{first}
 use Rattle.hash.specs.Formula.{placeOf}
 use Rattle.filling.specs.Filling.{Key}
 use Rattle.filling.specs.Least.{least, feasible}

@@ -6,8 +6,8 @@ use mathlib.Core.List.{List, [], _∷_}
 use mathlib.Core.Option.{none, some}
 use native.Mathlib.Omega.{arith}
 use lib.ListN.{length, getD, length-map}
-use Rattle.refusal.specs.FirstLaws.{some-of-isSome, first-some, first-none, first-found, first-out, first-more}
-use Rattle.filling.specs.Places.{distinct}
+use Rattle.lists.specs.FirstLaws.{some-of-isSome, first-some, first-none, first-found, first-out, first-more}
+use Rattle.lists.specs.Occurs.{distinct}
 use Rattle.hash.specs.Formula.{placeOf}
 use Rattle.hash.specs.FormulaLaws.{place-below}
 use Rattle.filling.specs.Filling.{placeBy, chosen, Fills}

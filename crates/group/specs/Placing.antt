@@ -2,12 +2,12 @@
 use Prim.Native.Nat.{ℕ}
 use mathlib.Core.Bool.{not}
 use mathlib.Core.List.{List, [], _∷_}
-use mathlib.Core.Option.{Option, Option·getD}
+use mathlib.Core.Option.{Option·getD}
 use lib.Dec.{ltb}
 use lib.ListN.{length}
 use Rattle.refusal.specs.Limits.{groupMax}
 use Rattle.refusal.specs.Outcome.{Outcome, answered}
-use Rattle.refusal.specs.First.{isSome}
+use Rattle.lists.specs.First.{isSome}
 use Rattle.refusal.specs.Checks.{Check, met, inOrder}
 use Rattle.filling.specs.Word.{wordOf}
 use Rattle.group.specs.Group.{leastSeed, taken}

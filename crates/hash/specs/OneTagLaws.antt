@@ -4,8 +4,8 @@ use mathlib.Core.Bool.{true, false}
 use Prim.Native.Nat.{ℕ, _≤_, _<_}
 use borrow.Author.Tests.{lt-ltb, le-ltb}
 use Rattle.refusal.specs.Limits.{groupMax, seedMax, outside}
-use Rattle.refusal.specs.Outcome.{Outcome, answered, refused}
-use Rattle.refusal.specs.First.{metAt}
+use Rattle.refusal.specs.Outcome.{answered, refused}
+use Rattle.lists.specs.First.{metAt}
 use Rattle.refusal.specs.Checks.{met, inOrder}
 use Rattle.hash.specs.Formula.{placeOf}
 use Rattle.hash.specs.OneTag.{oneTagChecks, placeOfOneTag}

@@ -3,29 +3,27 @@
 use mathlib.Core.Path.{_≡_, refl, sym, _∙_, ap}
 use mathlib.Core.Logic.{_⊎_, inl, inr, _↔_}
 use mathlib.Core.Bool.{Bool, true, false, cond, not, _&&_, _||_, true≢false, or-true}
-use mathlib.Core.List.{List, [], _∷_, _++_}
+use mathlib.Core.List.{List}
 use mathlib.Core.Option.{Option, none, some, Option·getD}
 use Prim.Native.Nat.{ℕ, zero, suc, _+_, _-_, _≤_, _<_}
 use native.Mathlib.Omega.{arith}
 use lib.Dec.{eqb, leb, ltb}
-use borrow.Author.Tests.{ltb-true, ltb-false, lt-ltb, le-ltb, leb-true, le-leb, eqb-true, eqb-false, eq-eqb, ne-eqb, not-true, not-false}
+use borrow.Author.Tests.{ltb-true, ltb-false, lt-ltb, le-ltb, le-leb, eqb-true, eqb-false, eq-eqb, not-false}
 use Rattle.refusal.specs.Limits.{tagsMax}
-use Rattle.refusal.specs.BoolLaws.{both-of-and, neither-of-or, either-of-or}
-use Rattle.refusal.specs.Outcome.{Outcome, answered, refused}
-use Rattle.refusal.specs.First.{first, metAt, isSome}
-use Rattle.refusal.specs.FirstLaws.{first-none, first-out, some-of-isSome, none-of-isSome}
-use Rattle.refusal.specs.Checks.{Check, met, inOrder}
-use Rattle.refusal.specs.ChecksLaws.{metAt-false, false-of-met, false-of-metAt, Pass, inOrder-pass, inOrder-answered, inOrder-append}
-use Rattle.hash.specs.Formula.{groupOf, placeOf}
+use Rattle.lists.specs.BoolLaws.{neither-of-or, either-of-or}
+use Rattle.refusal.specs.Outcome.{Outcome, answered}
+use Rattle.lists.specs.First.{first, metAt, isSome}
+use Rattle.lists.specs.FirstLaws.{first-none, first-out, some-of-isSome, none-of-isSome}
+use Rattle.refusal.specs.Checks.{inOrder}
+use Rattle.refusal.specs.ChecksLaws.{metAt-false, false-of-met, Pass, inOrder-pass, inOrder-answered, inOrder-append}
 use Rattle.hash.specs.FormulaLaws.{group-below, place-below}
 use Rattle.text.specs.Line.{lineAt, imageHeader}
 use Rattle.text.specs.LineLaws.{image-header-only}
-use Rattle.image.specs.Sheet.{imageLength}
 use Rattle.image.specs.View.{View, viewOf, countIn, groupsIn, startIn, seedIn, endIn, slotLineIn, slotIn, faulty, candidateIn}
 use Rattle.image.specs.Checking.{openingChecks, malformedIn, groupOfSlot, misplaced, repeated, checkingChecks, checkingOf}
 use Rattle.image.specs.Lookup.{Found, number, unknown, groupChecks, lookupChecks, atSlot, lookupInGroup, lookupOf}
 use Rattle.image.specs.LinesRead.{ownGroup, ownSlot}
-use Rattle.image.specs.FaultLaws.{Fair, fair-of-faulty, LiesIn, AllFair, end-most, lies-once, groupOfSlot-lies}
+use Rattle.image.specs.FaultLaws.{fair-of-faulty, LiesIn, AllFair, end-most, groupOfSlot-lies}
 
 -- Slot j holds tag t.
 pub record HoldsTag (v : View) (j t : ℕ) : Type 0 where

@@ -2,10 +2,10 @@
 use Prim.Native.Nat.{ℕ, zero, suc, _+_}
 use mathlib.Core.Bool.{Bool, cond, not, _&&_, _||_}
 use mathlib.Core.List.{List, [], _∷_, _++_}
-use mathlib.Core.Option.{Option, Option·getD}
+use mathlib.Core.Option.{Option·getD}
 use lib.Dec.{eqb, leb, ltb}
 use Rattle.refusal.specs.Outcome.{Outcome, answered}
-use Rattle.refusal.specs.First.{first, isSome}
+use Rattle.lists.specs.First.{first, isSome}
 use Rattle.refusal.specs.Checks.{Check, met, inOrder}
 use Rattle.hash.specs.Formula.{groupOf}
 use Rattle.text.specs.Line.{lineLength}

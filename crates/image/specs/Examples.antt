@@ -1,10 +1,10 @@
 -- Images at which two refusals are due, by computation: the earlier one comes. Assumes nothing.
 use mathlib.Core.Path.{_≡_, refl}
-use mathlib.Core.List.{List, [], _∷_, flatten}
+use mathlib.Core.List.{[], _∷_, flatten}
 use mathlib.Core.Option.{orElse}
 use Prim.Native.Nat.{ℕ}
 use Rattle.refusal.specs.Outcome.{refused}
-use Rattle.refusal.specs.First.{first, metAt, isSome}
+use Rattle.lists.specs.First.{first, metAt, isSome}
 use Rattle.refusal.specs.Checks.{met, inOrder}
 use Rattle.hash.specs.Formula.{product, highPart, hashed, groupOf, multiplier, placeOf}
 use Rattle.text.specs.Figure.{leading, figure}

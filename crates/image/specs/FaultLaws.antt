@@ -1,8 +1,7 @@
 -- The groups of an image of which none is faulty: they follow one another from 0 to N, and each slot lies in exactly one.
 -- Assumes nothing.
 use mathlib.Core.Path.{_≡_, refl, sym, _∙_}
-use mathlib.Core.Logic.{_⊎_, inl, inr}
-use mathlib.Core.Bool.{Bool, true, false, cond, not, _&&_, _||_, true≢false, or-true, or-false}
+use mathlib.Core.Bool.{Bool, true, false, not, _&&_, _||_, true≢false, or-true, or-false}
 use mathlib.Core.Option.{Option, none, some, Option·getD}
 use Prim.Native.Nat.{ℕ, zero, suc, _+_, _-_, _≤_, _<_}
 use native.Mathlib.Nat.{add-zero}
@@ -10,9 +9,9 @@ use native.Mathlib.Omega.{arith}
 use lib.Dec.{eqb, leb, ltb}
 use borrow.Author.Tests.{ltb-true, ltb-false, lt-ltb, le-ltb, leb-true, le-leb, eqb-true, eq-eqb, not-false}
 use Rattle.refusal.specs.Limits.{groupMax}
-use Rattle.refusal.specs.BoolLaws.{both-of-and, neither-of-or}
-use Rattle.refusal.specs.First.{first}
-use Rattle.refusal.specs.FirstLaws.{FirstAt, first-some, first-none}
+use Rattle.lists.specs.BoolLaws.{both-of-and, neither-of-or}
+use Rattle.lists.specs.First.{first}
+use Rattle.lists.specs.FirstLaws.{first-some, first-none}
 use Rattle.image.specs.View.{View, countIn, groupsIn, startIn, endIn, faulty}
 use Rattle.image.specs.Checking.{groupOfSlot}
 

@@ -3,7 +3,7 @@ use mathlib.Core.Path.{_≡_}
 use mathlib.Core.Bool.{true}
 use mathlib.Core.Option.{some}
 use Prim.Native.Nat.{ℕ, suc, _<_}
-use Rattle.refusal.specs.First.{isSome}
+use Rattle.lists.specs.First.{isSome}
 use Rattle.refusal.specs.ChecksLaws.{Pass}
 use Rattle.hash.specs.Formula.{groupOf}
 use Rattle.image.specs.View.{View, groupsIn, startIn, endIn, slotLineIn, candidateIn}

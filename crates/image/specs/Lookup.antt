@@ -1,11 +1,10 @@
 -- The operation "lookup". Assumes nothing.
 use Prim.Native.Nat.{ℕ, suc, _+_}
-use mathlib.Core.Bool.{Bool, cond, not, _&&_, _||_}
+use mathlib.Core.Bool.{cond, not, _&&_, _||_}
 use mathlib.Core.List.{List, [], _∷_, _++_}
-use mathlib.Core.Option.{Option, none, some}
 use lib.Dec.{eqb, ltb}
 use Rattle.refusal.specs.Outcome.{Outcome, answered}
-use Rattle.refusal.specs.First.{metAt, isSome}
+use Rattle.lists.specs.First.{metAt, isSome}
 use Rattle.refusal.specs.Checks.{Check, inOrder}
 use Rattle.hash.specs.Formula.{groupOf}
 use Rattle.image.specs.View.{View, viewOf, countIn, groupsIn, startIn, endIn, slotLineIn, slotIn, faulty, candidateIn}

@@ -1,21 +1,21 @@
 -- What a lookup's answer depends on, and what an answered number says, for any bytes at all. Assumes nothing.
 use mathlib.Core.Path.{_≡_, refl, sym, _∙_, ap}
 use mathlib.Core.Logic.{_⊎_, inl, inr}
-use mathlib.Core.Bool.{Bool, true, false, cond, not, _&&_, _||_}
-use mathlib.Core.List.{List, [], _∷_, _++_}
+use mathlib.Core.Bool.{Bool, true, false, cond, not, _&&_}
+use mathlib.Core.List.{List, [], _∷_}
 use mathlib.Core.Option.{Option, none, some, Option·getD}
-use Prim.Native.Nat.{ℕ, suc, _+_, _-_, _≤_, _<_}
+use Prim.Native.Nat.{ℕ, suc, _-_, _≤_, _<_}
 use native.Mathlib.Omega.{arith}
 use lib.Dec.{eqb, ltb}
 use lib.ListN.{length}
 use borrow.Author.Tests.{ltb-true, ltb-false, eqb-true, eqb-false, not-false}
-use Rattle.refusal.specs.BoolLaws.{neither-of-or}
-use Rattle.refusal.specs.Outcome.{Outcome, answered, refused}
-use Rattle.refusal.specs.First.{metAt, isSome}
-use Rattle.refusal.specs.FirstLaws.{some-of-isSome}
-use Rattle.refusal.specs.Checks.{Check, inOrder}
-use Rattle.refusal.specs.ChecksLaws.{false-of-metAt, Pass, pass-append, Agree, agree-same, inOrder-agree, inOrder-append, inOrder-answered}
-use Rattle.hash.specs.Formula.{groupOf, placeOf}
+use Rattle.lists.specs.BoolLaws.{neither-of-or}
+use Rattle.refusal.specs.Outcome.{Outcome, answered}
+use Rattle.lists.specs.First.{metAt, isSome}
+use Rattle.lists.specs.FirstLaws.{some-of-isSome}
+use Rattle.refusal.specs.Checks.{inOrder}
+use Rattle.refusal.specs.ChecksLaws.{false-of-metAt, Pass, pass-append, agree-same, inOrder-agree, inOrder-append, inOrder-answered}
+use Rattle.hash.specs.Formula.{groupOf}
 use Rattle.hash.specs.FormulaLaws.{place-below}
 use Rattle.text.specs.Line.{lineAt, imageHeader, groupLine, slotLine}
 use Rattle.image.specs.View.{View, viewOf, countIn, groupsIn, startIn, seedIn, endIn, slotLineIn, slotIn, faulty, candidateIn}

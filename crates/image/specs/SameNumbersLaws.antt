@@ -4,10 +4,10 @@ use mathlib.Core.Bool.{Bool, true, false, _&&_}
 use mathlib.Core.Option.{Option, none, some, Option·getD}
 use Prim.Native.Nat.{ℕ, suc, _<_}
 use native.Mathlib.Omega.{arith}
-use lib.Dec.{eqb, leb, ltb}
+use lib.Dec.{leb, ltb}
 use borrow.Author.Tests.{ltb-true, ltb-false}
-use Rattle.refusal.specs.First.{first, isSome}
-use Rattle.refusal.specs.FirstLaws.{first-some, first-cong}
+use Rattle.lists.specs.First.{first, isSome}
+use Rattle.lists.specs.FirstLaws.{first-some, first-cong}
 use Rattle.image.specs.View.{View, countIn, groupsIn, startIn, seedIn, endIn, slotIn, faulty, candidateIn}
 use Rattle.image.specs.Checking.{groupOfSlot, misplaced, repeated}
 use Rattle.image.specs.FaultLaws.{end-next, end-last}

@@ -1,12 +1,8 @@
 -- The image: its lines and bytes. Assumes nothing.
-use Prim.Native.Nat.{ℕ, zero, suc, _+_, _*_}
-use mathlib.Core.List.{List, [], _∷_, _++_, flatten}
+use Prim.Native.Nat.{ℕ, _+_, _*_}
+use mathlib.Core.List.{List, _∷_, _++_, flatten}
+use Rattle.lists.specs.UpTo.{upTo}
 use Rattle.text.specs.Line.{lineLength, pairLine, tagLine}
-
--- f 0, f 1, … up to but not including f count
-unfoldable pub upTo : {A : Type 0} → ℕ → (ℕ → A) → List A
-upTo zero f = []
-upTo (suc count) f = f 0 ∷ upTo count (λ k. f (suc k))
 
 -- The numbers that an image states: N, B, the start and the seed of each group, the tag of each slot.
 pub record Sheet : Type 0 where

@@ -1,51 +1,17 @@
 -- An image's length, and that line k of it is the line that was put there. Assumes nothing.
-use mathlib.Core.Path.{_≡_, refl, _∙_, ap}
-use mathlib.Core.List.{List, [], _∷_, _++_, flatten, append-nil}
+use mathlib.Core.Path.{_≡_, _∙_, ap}
+use mathlib.Core.List.{List, []}
 use mathlib.Core.Option.{some}
 use Prim.Native.Nat.{ℕ, zero, suc, _+_, _*_, _^_, _≤_, _<_}
-use native.Mathlib.Nat.{zero-add, suc-add}
 use native.Mathlib.Omega.{arith}
-use lib.ListN.{length, getD, length-append, List·getD-append}
+use lib.ListN.{length, length-append, List·getD-append}
 use lib.Seq.{getD-append-add}
 use Rattle.refusal.specs.Limits.{tagEnd, tagsMax, groupsMax, seedMax}
 use Rattle.text.specs.Line.{lineLength, lineAt, imageHeader, groupLine, slotLine}
-use Rattle.text.specs.LineLaws.{pairLine-length, tagLine-length, Lines, lines-append, flatten-length, flatten-append, line-flatten, image-header-line, group-line, slot-line}
-use Rattle.image.specs.Sheet.{upTo, Sheet, headerLineOf, groupLineOf, slotLineOf, linesOf, bytesOf, imageLength}
-
--- `upTo` has as many as are asked for, and f k at index k.
-pub upTo-length : {A : Type 0} (count : ℕ) (f : ℕ → A) → length (upTo count f) ≡ count
-unfolding upTo
-upTo-length zero f = refl
-upTo-length (suc count) f = ap suc (upTo-length count (λ k. f (suc k)))
-
-pub upTo-at : {A : Type 0} (count : ℕ) (f : ℕ → A) (d : A) (k : ℕ) → k < count → getD (upTo count f) k d ≡ f k
-unfolding upTo
-upTo-at zero f d k lt = absurd (omega arith)
-upTo-at (suc count) f d zero lt = refl
-upTo-at (suc count) f d (suc k) lt = upTo-at count (λ k. f (suc k)) d k (omega arith)
-
--- One more stands at the end, also where lists are put one after the other.
-pub upTo-more : {A : Type 0} (count : ℕ) (f : ℕ → A) → upTo (suc count) f ≡ upTo count f ++ (f count ∷ [])
-unfolding upTo
-upTo-more zero f = refl
-upTo-more (suc count) f = ap (λ xs. f 0 ∷ xs) (upTo-more count (λ k. f (suc k)))
-
--- One count after another.
-pub upTo-append : {A : Type 0} (count more : ℕ) (f : ℕ → A) → upTo (count + more) f ≡ upTo count f ++ upTo more (λ k. f (count + k))
-unfolding upTo
-upTo-append zero more f = simp zero-add
-upTo-append (suc count) more f = simp suc-add (ap (λ xs. f 0 ∷ xs) (upTo-append count more (λ k. f (suc k))))
-
-pub flatten-more : (count : ℕ) (f : ℕ → List ℕ) → flatten (upTo (suc count) f) ≡ flatten (upTo count f) ++ f count
-unfolding flatten
-flatten-more count f = rw (upTo-more count f, flatten-append (upTo count f) (f count ∷ []), append-nil (f count))
-
--- Functions that agree below the count give one list.
-pub upTo-agree : {A : Type 0} (count : ℕ) (f h : ℕ → A) → ((k : ℕ) → k < count → f k ≡ h k) → upTo count f ≡ upTo count h
-unfolding upTo
-upTo-agree zero f h agree = refl
-upTo-agree (suc count) f h agree =
-    rw (agree 0 (omega arith), upTo-agree count (λ k. f (suc k)) (λ k. h (suc k)) (λ k lt. agree (suc k) (omega arith)))
+use Rattle.lists.specs.UpToLaws.{upTo-length, upTo-at}
+use Rattle.text.specs.LineLaws.{pairLine-length, tagLine-length, Lines, lines-append, flatten-length, line-flatten, image-header-line, group-line, slot-line}
+use Rattle.lists.specs.UpTo.{upTo}
+use Rattle.image.specs.Sheet.{Sheet, headerLineOf, groupLineOf, slotLineOf, linesOf, bytesOf, imageLength}
 
 -- Each line of an image is a line.
 pub upTo-lines : (count : ℕ) (f : ℕ → List ℕ) → ((k : ℕ) → length (f k) ≡ lineLength) → Lines (upTo count f)

@@ -9,8 +9,8 @@ use native.Mathlib.Omega.{arith}
 use native.Mathlib.Numerals.{add-one}
 use lib.ListN.{length, getD, set, take, drop, length-set}
 use lib.Seq.{take-suc, length-take-le}
-use Rattle.refusal.specs.FirstLaws.{first-out}
-use Rattle.refusal.specs.Search.{Searched, searched-start, searched-turn}
+use Rattle.lists.specs.FirstLaws.{first-out}
+use Rattle.lists.specs.SearchLaws.{Searched, searched-start, searched-turn}
 use Rattle.text.specs.Line.{lineAt, listLine}
 use Rattle.list.specs.Reading.{malformed}
 use Rattle.list.specs.ReadingLaws.{line-well}

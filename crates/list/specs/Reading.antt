@@ -7,7 +7,7 @@ use lib.Dec.{eqb, ltb}
 use lib.ListN.{length, drop}
 use Rattle.refusal.specs.Limits.{tagsMax}
 use Rattle.refusal.specs.Outcome.{Outcome, answered, refused}
-use Rattle.refusal.specs.First.{first, isSome}
+use Rattle.lists.specs.First.{first, isSome}
 use Rattle.refusal.specs.Checks.{Check, met, inOrder}
 use Rattle.text.specs.Line.{lineLength, lineAt, listHeader, listLine}
 

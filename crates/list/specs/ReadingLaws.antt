@@ -12,8 +12,8 @@ use borrow.Author.Tests.{lt-ltb, le-ltb, ltb-false, ne-eqb}
 use Rattle.refusal.specs.Limits.{tagsMax}
 use Rattle.refusal.specs.Outcome.{answered, refused, answeredBy}
 use Rattle.refusal.specs.OutcomeLaws.{answered-of-by}
-use Rattle.refusal.specs.First.{first, metAt, isSome}
-use Rattle.refusal.specs.FirstLaws.{first-zero}
+use Rattle.lists.specs.First.{first, metAt, isSome}
+use Rattle.lists.specs.FirstLaws.{first-zero}
 use Rattle.refusal.specs.Checks.{met, inOrder}
 use Rattle.refusal.specs.ChecksLaws.{inOrder-answered, false-of-met}
 use Rattle.text.specs.Line.{lineLength, lineAt, listHeader, listLine}

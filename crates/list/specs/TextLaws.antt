@@ -9,7 +9,7 @@ use lib.ListN.{length, getD, length-map}
 use lib.Seq.{ext-getD}
 use Rattle.refusal.specs.Limits.{tagEnd, tagsMax}
 use Rattle.refusal.specs.Outcome.{Outcome, answered}
-use Rattle.refusal.specs.FirstLaws.{first-out}
+use Rattle.lists.specs.FirstLaws.{first-out}
 use Rattle.text.specs.Line.{lineLength, lineAt, pairLine, tagLine, listHeader, listLine}
 use Rattle.text.specs.LineLaws.{pairLine-length, tagLine-length, Lines, flatten-length, line-flatten, list-header-line, list-line}
 use Rattle.list.specs.Reading.{Listed, malformed, lineCount, tagCount, tagsFrom, listedIn, readingOf}

@@ -12,7 +12,7 @@ ghost use Prim.Native.Nat.{_-_, _*_, _≤_};
 ghost use lib.ListN.{length, take, drop};
 ghost use Rattle.refusal.specs.Limits.{tagsMax};
 ghost use Rattle.refusal.specs.Outcome.{refused, answeredBy};
-ghost use Rattle.refusal.specs.First.{first};
+ghost use Rattle.lists.specs.First.{first};
 ghost use Rattle.refusal.specs.Answer.{firstMeaning};
 ghost use Rattle.list.specs.Reading.{malformed, readingOf, cellsAfter};
 ghost use Rattle.list.specs.Stored.{tagsStored};

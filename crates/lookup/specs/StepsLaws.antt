@@ -8,7 +8,7 @@ use native.Mathlib.Omega.{arith}
 use lib.Dec.{eqb, ltb}
 use borrow.Author.Tests.{eq-eqb, ne-eqb, lt-ltb, le-ltb, ltb-true, ltb-false}
 use Rattle.refusal.specs.Outcome.{Outcome, answered, refused}
-use Rattle.refusal.specs.First.{metAt, isSome}
+use Rattle.lists.specs.First.{metAt, isSome}
 use Rattle.refusal.specs.Checks.{inOrder}
 use Rattle.refusal.specs.ChecksLaws.{inOrder-append}
 use Rattle.hash.specs.Formula.{groupOf, placeOf}

@@ -10,8 +10,8 @@ use lib.ListN.{length}
 use borrow.Author.Tests.{le-ltb, lt-ltb, eq-eqb, ne-eqb, ltb-false, eqb-true, not-false}
 use Rattle.refusal.specs.Limits.{tagsMax, groupsMax}
 use Rattle.refusal.specs.Outcome.{Outcome, answered, refused}
-use Rattle.refusal.specs.First.{metAt, isSome}
-use Rattle.refusal.specs.FirstLaws.{some-of-isSome}
+use Rattle.lists.specs.First.{metAt, isSome}
+use Rattle.lists.specs.FirstLaws.{some-of-isSome}
 use Rattle.refusal.specs.Checks.{met, inOrder}
 use Rattle.refusal.specs.ChecksLaws.{Pass, inOrder-pass, inOrder-answered, inOrder-refused, refused-inOrder, false-of-met}
 use Rattle.text.specs.Line.{lineLength, lineAt, imageHeader}

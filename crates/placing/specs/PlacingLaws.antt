@@ -1,19 +1,19 @@
 -- The ways in which placing a group ends, in the order of its checks. Assumes nothing.
-use mathlib.Core.Path.{_≡_, refl}
-use mathlib.Core.Bool.{true, false, not}
-use mathlib.Core.List.{List, [], _∷_}
-use mathlib.Core.Option.{none, some, Option·getD}
+use mathlib.Core.Path.{_≡_}
+use mathlib.Core.Bool.{true, false}
+use mathlib.Core.List.{List}
+use mathlib.Core.Option.{none, some}
 use Prim.Native.Nat.{ℕ, _≤_, _<_}
 use lib.ListN.{length}
 use borrow.Author.Tests.{lt-ltb, le-ltb}
 use Rattle.refusal.specs.Limits.{limitMax, groupMax, outside}
-use Rattle.refusal.specs.Outcome.{Outcome, answered, refused}
-use Rattle.refusal.specs.First.{metAt, isSome}
+use Rattle.refusal.specs.Outcome.{answered, refused}
+use Rattle.lists.specs.First.{metAt, isSome}
 use Rattle.refusal.specs.Checks.{met, inOrder}
 use Rattle.filling.specs.Word.{wordOf}
 use Rattle.group.specs.Group.{leastSeed, taken}
 use Rattle.group.specs.Ascending.{limitCheck, ascendingCheck}
-use Rattle.group.specs.Placing.{Placement, placingChecks, placementOf, placingOf}
+use Rattle.group.specs.Placing.{placingChecks, placementOf, placingOf}
 
 module _ (tags : List ℕ) (limit : ℕ) where
   pub placing-limit : outside 1 limitMax limit ≡ true → placingOf tags limit ≡ refused 4 0

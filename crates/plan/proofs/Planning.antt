@@ -7,10 +7,10 @@ use native.Mathlib.Numerals.{add-one}
 use native.Mathlib.Omega.{arith}
 use lib.ListN.{length, getD, set, take, drop}
 use Rattle.refusal.specs.Outcome.{answered, refused}
-use Rattle.refusal.specs.First.{first, isSome}
-use Rattle.refusal.specs.Search.{Searched, searched-start, searched-turn, searched-found, searched-done}
+use Rattle.lists.specs.First.{first, isSome}
+use Rattle.lists.specs.SearchLaws.{Searched, searched-start, searched-turn, searched-found, searched-done}
 use Rattle.group.specs.Placing.{Placement, placingOf}
-use Rattle.image.specs.Sheet.{upTo}
+use Rattle.lists.specs.UpTo.{upTo}
 use Rattle.building.specs.Parts.{partStart, partOf}
 use Rattle.plan.specs.Plan.{unseeded, partSeed, partWord, cellsPlanned, seedsPlanned, wordsPlanned, Plannable}
 use Rattle.plan.specs.PlanLaws.{placed-seed, refused-seedless, planned-more}

@@ -4,11 +4,11 @@ use mathlib.Core.List.{List, _++_}
 use Prim.Native.Nat.{ℕ, _≤_, _<_}
 use lib.ListN.{length, drop}
 use Rattle.refusal.specs.Limits.{groupMax, limitMax}
-use Rattle.refusal.specs.First.{isSome}
+use Rattle.lists.specs.First.{isSome}
 use Rattle.group.specs.Group.{leastSeed}
 use Rattle.group.specs.Placing.{placementOf}
 use Rattle.group.specs.AscendingLaws.{Ascending}
-use Rattle.image.specs.Sheet.{upTo}
+use Rattle.lists.specs.UpTo.{upTo}
 use Rattle.building.specs.Parts.{partOf, Parts}
 
 -- No seed below the limit serves the group's part.

@@ -14,8 +14,8 @@ use Rattle.refusal.specs.Outcome.{answered, refused}
 use Rattle.group.specs.Group.{leastSeed}
 use Rattle.group.specs.Placing.{Placement, placementOf, placingOf}
 use Rattle.group.specs.AscendingLaws.{Ascending, check-of-ascending}
-use Rattle.image.specs.Sheet.{upTo}
-use Rattle.image.specs.SheetLaws.{upTo-length, upTo-at, upTo-more}
+use Rattle.lists.specs.UpTo.{upTo}
+use Rattle.lists.specs.UpToLaws.{upTo-length, upTo-at, upTo-more}
 use Rattle.placing.specs.PlacingLaws.{placing-unseeded, placing-seeded}
 use Rattle.plan.specs.Plan.{cellsPlanned}
 

@@ -8,7 +8,7 @@ ghost use mathlib.Core.Option.{Option·getD};
 ghost use Prim.Native.Nat.{_≤_};
 ghost use lib.ListN.{length};
 ghost use Rattle.refusal.specs.Limits.{groupsMax};
-ghost use Rattle.refusal.specs.First.{first};
+ghost use Rattle.lists.specs.First.{first};
 ghost use Rattle.refusal.specs.Answer.{firstMeaning};
 ghost use Rattle.plan.specs.Plan.{unseeded, seedsPlanned, wordsPlanned, Plannable};
 

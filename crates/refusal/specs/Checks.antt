@@ -4,7 +4,7 @@ use mathlib.Core.Bool.{Bool}
 use mathlib.Core.List.{List, [], _∷_}
 use mathlib.Core.Option.{Option, none, some}
 use Rattle.refusal.specs.Outcome.{Outcome, refused}
-use Rattle.refusal.specs.First.{metAt}
+use Rattle.lists.specs.First.{metAt}
 
 -- A check: the refusal's number, and the place where its condition is met, if it is met.
 abbrev pub Check : Type 0

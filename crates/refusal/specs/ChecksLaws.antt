@@ -8,7 +8,7 @@ use mathlib.Core.Option.{Option, none, some}
 use native.Mathlib.Omega.{arith}
 use lib.Dec.{eqb}
 use Rattle.refusal.specs.Outcome.{Outcome, answered, refused}
-use Rattle.refusal.specs.First.{metAt}
+use Rattle.lists.specs.First.{metAt}
 use Rattle.refusal.specs.Checks.{Check, met, inOrder}
 
 -- A condition that holds is met at its place.

@@ -1,11 +1,7 @@
-pub mod BoolLaws
 pub mod Limits
 pub mod LimitsLaws
 pub mod Outcome
 pub mod OutcomeLaws
-pub mod First
-pub mod FirstLaws
-pub mod Search
 pub mod Checks
 pub mod ChecksLaws
 pub mod PlaceLaws

@@ -7,10 +7,10 @@ use Prim.Native.Nat.{ℕ, _≤_, _<_}
 use native.Mathlib.Omega.{arith}
 use lib.Dec.{ltb}
 use borrow.Author.Tests.{ltb-true}
-use Rattle.refusal.specs.BoolLaws.{both-of-and}
+use Rattle.lists.specs.BoolLaws.{both-of-and}
 use Rattle.refusal.specs.Outcome.{Outcome, answered, refused, followedBy}
-use Rattle.refusal.specs.First.{metAt, first}
-use Rattle.refusal.specs.FirstLaws.{first-some}
+use Rattle.lists.specs.First.{metAt, first}
+use Rattle.lists.specs.FirstLaws.{first-some}
 use Rattle.refusal.specs.Checks.{Check, met, inOrder}
 
 -- A place, where one is named, is below the bound.

@@ -13,7 +13,7 @@ use lib.Seq.{take-suc}
 use borrow.Author.Tests.{eqb-true, eqb-false}
 use Rattle.bits.specs.Bit.{bitAt, setBit}
 use Rattle.bits.specs.BitLaws.{bit-zero, bit-same, bit-other, setBit-comm, setBit-ones, ones-zero, or-setBit}
-use Rattle.filling.specs.Places.{occurs}
+use Rattle.lists.specs.Occurs.{occurs}
 use Rattle.filling.specs.Filling.{Key, placeBy, Fills}
 use Rattle.filling.specs.FillingLaws.{EachCandidate}
 use Rattle.filling.specs.Touched.{candidatePlaces, once, touched}

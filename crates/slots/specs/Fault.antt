@@ -1,7 +1,7 @@
 -- What is wrong with the slots before one of them. Assumes nothing.
 use Prim.Native.Nat.{ℕ}
 use mathlib.Core.Option.{Option, none, some}
-use Rattle.refusal.specs.First.{first, metAt}
+use Rattle.lists.specs.First.{first, metAt}
 use Rattle.image.specs.View.{View}
 use Rattle.image.specs.Checking.{misplaced, repeated}
 use Rattle.slots.specs.declared.SlotFault.{SlotFault}

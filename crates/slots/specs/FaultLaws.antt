@@ -1,12 +1,11 @@
 -- The walk through the slots: the fault of the slots up to one more, from that of the slots before it. Assumes nothing.
-use mathlib.Core.Path.{_≡_, refl, sym, _∙_, ap}
+use mathlib.Core.Path.{_≡_, refl, _∙_, ap}
 use mathlib.Core.Bool.{Bool, true, false}
 use mathlib.Core.Option.{Option, none, some, orElse}
 use Prim.Native.Nat.{ℕ, _+_, _<_}
 use native.Mathlib.Numerals.{add-one}
-use native.Mathlib.Omega.{arith}
-use Rattle.refusal.specs.First.{first, metAt}
-use Rattle.refusal.specs.FirstLaws.{first-none, first-found}
+use Rattle.lists.specs.First.{first, metAt}
+use Rattle.lists.specs.FirstLaws.{first-none, first-found}
 use Rattle.image.specs.View.{View}
 use Rattle.image.specs.Checking.{misplaced, repeated}
 use Rattle.slots.specs.declared.SlotFault.{SlotFault}

@@ -2,7 +2,7 @@
 ghost use mathlib.Core.Path.{_≡_};
 ghost use mathlib.Core.Option.{none};
 ghost use lib.ListN.{getD};
-ghost use Rattle.refusal.specs.First.{first};
+ghost use Rattle.lists.specs.First.{first};
 ghost use Rattle.image.specs.Checking.{misplaced};
 ghost use Rattle.slots.specs.Cells.{cellsView, Regular, InGroup};
 ghost use Rattle.slots.specs.Fault.{orRepeated, faultAt, faultBefore};

@@ -1,5 +1,5 @@
 -- The starred worked values of document 01, 1 to 9, a row each. Theorem.antt proves them. Assumes nothing.
-use mathlib.Core.Bool.{Bool, true, false}
+use mathlib.Core.Bool.{true, false}
 use mathlib.Core.List.{List, [], _∷_}
 use Prim.Native.Nat.{ℕ}
 use Rattle.refusal.specs.Limits.{limitMax}

@@ -1,38 +1,38 @@
 -- The starred theorem: every row of the table holds. Assumes nothing.
-use mathlib.Core.Path.{_≡_, refl, sym, _∙_, ap, subst}
+use mathlib.Core.Path.{_≡_, refl, subst}
 use mathlib.Core.Bool.{Bool, true, false}
-use mathlib.Core.List.{List, [], _∷_, flatten}
-use mathlib.Core.Option.{Option, none, some, orElse}
+use mathlib.Core.List.{List, [], flatten}
+use mathlib.Core.Option.{none, some, orElse}
 use mathlib.Core.Logic.{_⊎_, inl, inr}
-use Prim.Native.Nat.{ℕ, zero, suc, _+_, _*_, _/_, _%_, _≤_, _<_}
+use Prim.Native.Nat.{ℕ, zero, suc, _+_, _*_, _/_, _%_, _<_}
 use native.Mathlib.Omega.{arith}
 use lib.Dec.{eqb}
 use lib.ListN.{length, getD}
 use borrow.Author.Tests.{le-ltb, eqb-true, eqb-false}
 use Rattle.refusal.specs.Limits.{limitMax, groupsMax, outside}
 use Rattle.refusal.specs.LimitsLaws.{outside-not}
-use Rattle.refusal.specs.Outcome.{Outcome, answered, refused}
-use Rattle.refusal.specs.First.{first, metAt, isSome}
+use Rattle.lists.specs.First.{first, metAt, isSome}
 use Rattle.refusal.specs.Checks.{met, inOrder}
 use Rattle.hash.specs.Formula.{product, highPart, hashed, groupOf, multiplier, placeOf}
 use Rattle.hash.specs.FormulaLaws.{multiplier-odd, place-below}
 use Rattle.hash.specs.OneTag.{oneTagChecks, placeOfOneTag}
 use Rattle.text.specs.Figure.{leading, figure}
 use Rattle.text.specs.Line.{pairLine}
-use Rattle.filling.specs.Places.{occurs, distinct}
+use Rattle.lists.specs.Occurs.{occurs, distinct}
 use Rattle.filling.specs.Filling.{placeBy, chosen, Fills}
 use Rattle.filling.specs.Least.{beginning, leastFrom, least, feasible}
 use Rattle.filling.specs.Word.{choiceNumber, wordOf}
 use Rattle.group.specs.Group.{bothPlaces, candidates, groupUnder, leastSeed, taken}
-use Rattle.filling.specs.FillingLaws.{EachCandidate, unreached}
+use Rattle.filling.specs.FillingLaws.{unreached}
 use Rattle.group.specs.GroupLaws.{candidates-length, each-candidate, leastSeed-out, leastSeed-empty}
 use Rattle.group.specs.Ascending.{limitCheck, notAbove, ascendingCheck}
 use Rattle.group.specs.Placing.{placingChecks, placementOf, placingOf}
-use Rattle.image.specs.Sheet.{upTo, linesOf, bytesOf, imageLength}
+use Rattle.lists.specs.UpTo.{upTo}
+use Rattle.image.specs.Sheet.{linesOf, bytesOf, imageLength}
 use Rattle.building.specs.Members.{select, members, startOf}
 use Rattle.building.specs.Number.{choiceOf, placeIn, numberOf, tagNumbered}
 use Rattle.building.specs.Building.{sheetOf, seedTaken, choicesTaken, imageOf, buildingChecks, buildingOf, written, bufferAfter}
-use Rattle.worked.specs.Row.{Claim, Holds, AllHold, Row, RowHolds, Every}
+use Rattle.worked.specs.Row.{Claim, Holds, AllHold, RowHolds, Every}
 use Rattle.worked.specs.Table.{value1, value2, value3, value4, value5, value6, value7, value8, value9, table, unreachable}
 
 -- A row for one limit.

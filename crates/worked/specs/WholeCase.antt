@@ -1,28 +1,29 @@
 -- The whole case of document 01, and edges that no row of the table touches, by computation from the definitions.
 -- Assumes nothing.
 use mathlib.Core.Path.{_≡_, refl}
-use mathlib.Core.List.{List, [], _∷_, _++_, flatten}
-use mathlib.Core.Option.{Option, orElse}
+use mathlib.Core.List.{List, [], _∷_, flatten}
+use mathlib.Core.Option.{orElse}
 use Prim.Native.Nat.{ℕ}
 use lib.ListN.{take, set}
 use Rattle.refusal.specs.Limits.{outside}
-use Rattle.refusal.specs.Outcome.{Outcome, answered, refused, answeredBy, followedBy}
-use Rattle.refusal.specs.First.{first, metAt, isSome}
+use Rattle.refusal.specs.Outcome.{answered, refused, answeredBy, followedBy}
+use Rattle.lists.specs.First.{first, metAt, isSome}
 use Rattle.refusal.specs.Checks.{met, inOrder}
 use Rattle.hash.specs.Formula.{product, highPart, hashed, groupOf, multiplier, placeOf}
 use Rattle.text.specs.Figure.{leading, figure}
 use Rattle.text.specs.Field.{valueFrom, same, field}
 use Rattle.text.specs.Line.{lineAt, pairLine, tagLine, ended, bothFields, pairOf, tagOf, within, imageHeader, groupLine, slotLine, listHeader, listLine}
-use Rattle.filling.specs.Places.{occurs, distinct}
+use Rattle.lists.specs.Occurs.{occurs, distinct}
 use Rattle.filling.specs.Filling.{placeBy}
 use Rattle.filling.specs.Least.{beginning, leastFrom, least, feasible}
 use Rattle.group.specs.Group.{bothPlaces, candidates, leastSeed, taken}
 use Rattle.group.specs.Ascending.{limitCheck, notAbove, ascendingCheck}
 use Rattle.list.specs.Reading.{malformed, lineCount, tagCount, tagsFrom, listedIn, readingChecks, readingOf}
-use Rattle.image.specs.Sheet.{upTo, linesOf, bytesOf, imageLength}
+use Rattle.lists.specs.UpTo.{upTo}
+use Rattle.image.specs.Sheet.{linesOf, bytesOf, imageLength}
 use Rattle.image.specs.View.{viewOf, countIn, groupsIn, startIn, seedIn, slotLineIn, slotIn, endIn, faulty, candidateIn}
 use Rattle.image.specs.Checking.{openingChecks, malformedIn, groupOfSlot, misplaced, repeated, checkingChecks, checkingOf}
-use Rattle.image.specs.Lookup.{Found, number, unknown, groupChecks, lookupChecks, atSlot, lookupInGroup, lookupOf}
+use Rattle.image.specs.Lookup.{number, groupChecks, lookupChecks, atSlot, lookupInGroup, lookupOf}
 use Rattle.building.specs.Members.{select, members, startOf}
 use Rattle.building.specs.Number.{choiceOf, placeIn, numberOf, tagNumbered}
 use Rattle.building.specs.Building.{sheetOf, seedTaken, choicesTaken, imageOf, buildingChecks, buildingOf}

@@ -7,13 +7,15 @@ use native.Mathlib.Numerals.{add-one}
 use lib.ListN.{length, getD, take, drop}
 use Rattle.text.specs.Line.{lineLength, pairLine, tagLine}
 use Rattle.text.specs.LineLaws.{flatten-length}
-use Rattle.image.specs.Sheet.{upTo, bytesOf, imageLength}
-use Rattle.image.specs.SheetLaws.{upTo-length, upTo-lines, flatten-more, bytes-length}
+use Rattle.lists.specs.UpTo.{upTo}
+use Rattle.image.specs.Sheet.{bytesOf, imageLength}
+use Rattle.lists.specs.UpToLaws.{upTo-length, flatten-more}
+use Rattle.image.specs.SheetLaws.{upTo-lines, bytes-length}
 use Rattle.building.specs.Parts.{partStart}
 use Rattle.write.specs.Stated.{statedSheet, statedLine, Writable}
 use Rattle.write.specs.StatedLaws.{line-length, line-group, line-slot, stated-bytes}
-use Rattle.write.specs.Written.{writtenAt}
-use Rattle.write.specs.WrittenLaws.{written-nothing, written-of, written-first, written-length, written-next}
+use Rattle.lists.specs.Written.{writtenAt}
+use Rattle.lists.specs.WrittenLaws.{written-nothing, written-of, written-first, written-length, written-next}
 
 -- The first k lines are written, and the other bytes are as they were.
 pub record LinesWritten (ends seeds slots : List ℕ) (groups count : ℕ) (before bytes : List ℕ) (k : ℕ) : Type 0 where

@@ -2,5 +2,3 @@ pub mod Stated
 pub mod StatedLaws
 pub mod Planned
 pub mod PlannedLaws
-pub mod Written
-pub mod WrittenLaws

@@ -9,8 +9,9 @@ use lib.ListN.{length, getD}
 use borrow.Author.Tests.{lt-ltb, le-ltb}
 use Rattle.text.specs.Line.{lineLength, pairLine, tagLine}
 use Rattle.text.specs.LineLaws.{pairLine-length, tagLine-length}
-use Rattle.image.specs.Sheet.{upTo, Sheet, groupLineOf, slotLineOf, linesOf, bytesOf}
-use Rattle.image.specs.SheetLaws.{upTo-append, upTo-agree}
+use Rattle.lists.specs.UpTo.{upTo}
+use Rattle.image.specs.Sheet.{Sheet, groupLineOf, slotLineOf, linesOf, bytesOf}
+use Rattle.lists.specs.UpToLaws.{upTo-append, upTo-agree}
 use Rattle.building.specs.Parts.{partStart}
 use Rattle.write.specs.Stated.{statedSheet, statedLine}
 

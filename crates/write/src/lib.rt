@@ -8,7 +8,7 @@ ghost use Rattle.image.specs.Sheet.{bytesOf, imageLength};
 ghost use Rattle.building.specs.Parts.{partStart};
 ghost use Rattle.write.specs.Stated.{statedSheet, statedLine, EndsSmall, Writable};
 ghost use Rattle.write.specs.Planned.{plannedSheet, Planned};
-ghost use Rattle.write.specs.Written.{writtenAt};
+ghost use Rattle.lists.specs.Written.{writtenAt};
 
 // Every line is ten columns and a line feed.
 const LINE_LENGTH: usize = 11;

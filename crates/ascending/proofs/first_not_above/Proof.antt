@@ -6,7 +6,7 @@ use mathlib.Core.Bool.{false}
 use Prim.Native.Nat.{ℕ, _-_, _<_}
 use native.Mathlib.Omega.{arith}
 use lib.ListN.{length}
-use Rattle.refusal.specs.FirstLaws.{first-found, first-out}
+use Rattle.lists.specs.FirstLaws.{first-found, first-out}
 use Rattle.group.specs.Ascending.{notAbove, ascendingCheck}
 use Rattle.group.specs.AscendingLaws.{first-above, not-above, above}
 use Rattle.ascending.proofs.first_not_above.Statement.{statement}

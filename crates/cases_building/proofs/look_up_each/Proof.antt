@@ -1,6 +1,5 @@
 -- `cases_building::look_up_each` is safe and ends: the index stays below the length. Assumes nothing.
 use Prim.Native.Nat.{_-_, _≤_}
-use native.Mathlib.Omega.{arith}
 use lib.ListN.{length}
 use borrow.Author.Needs.{needs}
 use Rattle.cases_building.proofs.look_up_each.Statement.{statement}

@@ -1,8 +1,7 @@
 -- `cases_long::number_lines` is safe and ends: each line lies within the buffer, whose length stays. Assumes nothing.
 use borrow.Author.Needs.{needs}
-use mathlib.Core.Path.{_≡_, refl}
+use mathlib.Core.Path.{_≡_}
 use Prim.Native.Nat.{_-_, _≤_}
-use native.Mathlib.Omega.{arith}
 use lib.ListN.{length}
 use Rattle.cases_long.proofs.number_lines.Statement.{statement}
 use Rattle.cases_long.proofs.number_lines.Tie as tie

@@ -3,8 +3,8 @@ use borrow.Author.Needs.{needs}
 use mathlib.Core.Path.{refl, sym, _∙_}
 use Prim.Native.Nat.{_-_}
 use native.Mathlib.Omega.{arith}
-use Rattle.refusal.specs.First.{first}
-use Rattle.refusal.specs.Search.{Searched, searched-start, searched-turn, searched-found, searched-done}
+use Rattle.lists.specs.First.{first}
+use Rattle.lists.specs.SearchLaws.{Searched, searched-start, searched-turn, searched-found, searched-done}
 use Rattle.checking.specs.Steps.{faultyAt}
 use Rattle.checking.proofs.faulty_group.Statement.{statement}
 use Rattle.checking.proofs.faulty_group.Tie as tie

@@ -7,8 +7,8 @@ use mathlib.Core.Bool.{not}
 use mathlib.Core.Option.{Option, none, some}
 use Prim.Native.Nat.{ℕ, _+_, _-_, _<_}
 use native.Mathlib.Omega.{arith}
-use Rattle.refusal.specs.First.{isSome}
-use Rattle.refusal.specs.Search.{Searched, searched-start, searched-turn, searched-found, searched-done}
+use Rattle.lists.specs.First.{isSome}
+use Rattle.lists.specs.SearchLaws.{Searched, searched-start, searched-turn, searched-found, searched-done}
 use Rattle.text.specs.declared.Pair.{Pair}
 use Rattle.text.specs.Line.{lineAt, groupLine}
 use Rattle.text.specs.LineLaws.{line-reads}

@@ -9,8 +9,8 @@ use Prim.Native.Nat.{ℕ, _+_, _-_, _<_}
 use native.Mathlib.Nat.{add-zero}
 use native.Mathlib.Omega.{arith}
 use Rattle.refusal.specs.Limits.{tagsMax}
-use Rattle.refusal.specs.First.{isSome}
-use Rattle.refusal.specs.Search.{Searched, searched-start, searched-turn, searched-found, searched-done}
+use Rattle.lists.specs.First.{isSome}
+use Rattle.lists.specs.SearchLaws.{Searched, searched-start, searched-turn, searched-found, searched-done}
 use Rattle.text.specs.declared.Tag.{Tag}
 use Rattle.text.specs.Line.{lineAt, slotLine}
 use Rattle.text.specs.LineLaws.{line-reads}

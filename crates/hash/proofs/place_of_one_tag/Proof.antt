@@ -1,7 +1,7 @@
 -- `hash::place_of_one_tag` meets its contract: each branch is one of the four ways in which the operation ends.
 -- Assumes nothing.
 use borrow.Author.Needs.{needs}
-use mathlib.Core.Path.{_≡_, sym, _∙_}
+use mathlib.Core.Path.{_≡_, sym}
 use mathlib.Core.Bool.{false}
 use Rattle.refusal.specs.Limits.{groupMax, outside}
 use Rattle.hash.specs.OneTagLaws.{one-tag-size, one-tag-seed, one-tag-choice, one-tag-place}

@@ -5,7 +5,7 @@ use mathlib.Core.Path.{_≡_, refl, sym}
 use mathlib.Core.Logic.{inl, inr, ⊎-elim}
 use Prim.Native.Nat.{_-_}
 use native.Mathlib.Omega.{arith}
-use Rattle.refusal.specs.Search.{searched-found, searched-done}
+use Rattle.lists.specs.SearchLaws.{searched-found, searched-done}
 use Rattle.text.specs.Line.{listLine}
 use Rattle.text.specs.LineLaws.{line-reads}
 use Rattle.text.specs.Answer.{tagMeaning}

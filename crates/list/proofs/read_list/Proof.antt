@@ -14,9 +14,7 @@ use Rattle.text.specs.LineLaws.{line-reads}
 use Rattle.text.specs.Answer.{pairMeaning}
 use Rattle.list.specs.Reading.{lineCount, tagCount, tagsFrom, listedIn, readingOf, cellsAfter}
 use Rattle.list.specs.Answer.{ListHead, headOf}
-use Rattle.list.specs.ReadingLaws.{header-well, header-malformed, tagsFrom-length, head-is}
-use Rattle.list.specs.ReadingLaws.{read-short, read-uneven, read-header-malformed, read-malformed}
-use Rattle.list.specs.ReadingLaws.{read-many, read-narrow, read-answered}
+use Rattle.list.specs.ReadingLaws.{header-well, header-malformed, tagsFrom-length, head-is, read-short, read-uneven, read-header-malformed, read-malformed, read-many, read-narrow, read-answered}
 use Rattle.list.specs.StoredLaws.{stored-length, stored-tags}
 use Rattle.list.proofs.read_list.Statement.{statement}
 use Rattle.list.proofs.read_list.Tie as tie

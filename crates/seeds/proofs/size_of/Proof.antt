@@ -8,7 +8,7 @@ use lib.Dec.{eqb}
 use lib.ListN.{length, getD}
 use borrow.Author.Needs.{needs}
 use borrow.Author.Tests.{eqb-true}
-use Rattle.refusal.specs.BoolLaws.{both-of-and}
+use Rattle.lists.specs.BoolLaws.{both-of-and}
 use Rattle.seeds.proofs.size_of.Statement.{statement}
 use Rattle.seeds.proofs.size_of.Tie as tie
 

@@ -7,18 +7,18 @@ use mathlib.Core.Option.{orElse}
 use Prim.Native.Nat.{ℕ}
 use native.Mathlib.Omega.{arith}
 use Rattle.refusal.specs.Limits.{outside}
-use Rattle.refusal.specs.Outcome.{Outcome, answered, refused, followedBy}
-use Rattle.refusal.specs.First.{first, metAt, isSome}
+use Rattle.refusal.specs.Outcome.{answered, refused, followedBy}
+use Rattle.lists.specs.First.{first, metAt, isSome}
 use Rattle.refusal.specs.Checks.{met, inOrder}
 use Rattle.hash.specs.Formula.{product, highPart, hashed, groupOf, multiplier, placeOf}
-use Rattle.filling.specs.Places.{occurs}
+use Rattle.lists.specs.Occurs.{occurs}
 use Rattle.filling.specs.Filling.{placeBy}
 use Rattle.filling.specs.Least.{beginning, leastFrom, least, feasible}
 use Rattle.filling.specs.Word.{choiceNumber}
 use Rattle.group.specs.Group.{bothPlaces, candidates, leastSeed, taken}
 use Rattle.group.specs.Ascending.{limitCheck, notAbove, ascendingCheck}
 use Rattle.image.specs.Sheet.{imageLength}
-use Rattle.image.specs.Lookup.{Found, number, unknown}
+use Rattle.image.specs.Lookup.{number, unknown}
 use Rattle.building.specs.Members.{select, members, startOf}
 use Rattle.building.specs.Number.{choiceOf, placeIn, numberOf}
 use Rattle.building.specs.Building.{seedTaken, choicesTaken, buildingChecks, buildingOf}

@@ -3,8 +3,8 @@
 use borrow.Author.Needs.{needs}
 use mathlib.Core.Path.{_≡_, refl}
 use Rattle.refusal.specs.Limits.{outside}
-use Rattle.refusal.specs.Outcome.{Outcome, answered}
-use Rattle.refusal.specs.First.{metAt}
+use Rattle.refusal.specs.Outcome.{answered}
+use Rattle.lists.specs.First.{metAt}
 use Rattle.refusal.specs.Checks.{met, inOrder}
 use Rattle.hash.specs.Formula.{product, highPart, hashed, multiplier, placeOf}
 use Rattle.hash.specs.OneTag.{oneTagChecks, placeOfOneTag}

@@ -7,18 +7,17 @@ use mathlib.Core.Option.{orElse}
 use native.Mathlib.Omega.{arith}
 use Prim.Native.Nat.{ℕ}
 use Rattle.refusal.specs.Limits.{outside}
-use Rattle.refusal.specs.Outcome.{Outcome, answered}
-use Rattle.refusal.specs.First.{first, metAt, isSome}
+use Rattle.refusal.specs.Outcome.{answered}
+use Rattle.lists.specs.First.{first, metAt, isSome}
 use Rattle.refusal.specs.Checks.{met, inOrder}
 use Rattle.hash.specs.Formula.{product, highPart, hashed, multiplier, placeOf}
-use Rattle.filling.specs.Places.{occurs}
+use Rattle.lists.specs.Occurs.{occurs}
 use Rattle.filling.specs.Filling.{placeBy}
 use Rattle.filling.specs.Least.{beginning, leastFrom, least, feasible}
 use Rattle.filling.specs.Word.{choiceNumber, wordOf}
 use Rattle.group.specs.Group.{bothPlaces, candidates, leastSeed, taken}
 use Rattle.group.specs.Ascending.{limitCheck, notAbove, ascendingCheck}
 use Rattle.group.specs.Placing.{Placement, placingChecks, placementOf, placingOf}
-use Rattle.placing.specs.Answer.{placingOutcome}
 use Rattle.placing.proofs.worked.placement_of_one_and_three.Statement.{statement}
 use Rattle.placing.proofs.worked.placement_of_one_and_three.Tie as tie
 

@@ -8,16 +8,16 @@ use native.Mathlib.Omega.{arith}
 use Prim.Native.Nat.{ℕ, zero, suc, _≤_, _<_}
 use lib.ListN.{length, getD, replicate}
 use Rattle.refusal.specs.Limits.{groupsMax, groupMax}
-use Rattle.refusal.specs.First.{first, metAt, isSome}
+use Rattle.lists.specs.First.{first, metAt, isSome}
 use Rattle.hash.specs.Formula.{product, highPart, hashed, multiplier, placeOf}
-use Rattle.filling.specs.Places.{occurs}
+use Rattle.lists.specs.Occurs.{occurs}
 use Rattle.filling.specs.Filling.{placeBy}
 use Rattle.filling.specs.Least.{beginning, leastFrom, least, feasible}
 use Rattle.filling.specs.Word.{choiceNumber, wordOf}
 use Rattle.group.specs.Group.{bothPlaces, candidates, leastSeed, taken}
 use Rattle.group.specs.AscendingLaws.{Ascending}
 use Rattle.group.specs.Placing.{placementOf}
-use Rattle.building.specs.Parts.{partStart, partOf, Parts}
+use Rattle.building.specs.Parts.{partStart, partOf}
 use Rattle.plan.specs.Plan.{unseeded, partSeed, partWord, cellsPlanned, Plannable}
 use Rattle.plan.specs.PlanLaws.{planned-at}
 use Rattle.plan.proofs.worked.plan_of_one_and_three.Statement.{statement}

@@ -5,7 +5,7 @@ use mathlib.Core.List.{List, [], _++_, append-assoc, append-nil}
 use native.Mathlib.Omega.{arith}
 use lib.ListN.{length, take, drop, length-append, length-drop, take-append-drop}
 use lib.Seq.{take-at, drop-drop, drop-append-add, length-take-le}
-use Rattle.write.specs.Written.{writtenAt}
+use Rattle.lists.specs.Written.{writtenAt}
 
 -- Nothing written changes nothing.
 pub written-nothing : (at : ℕ) (bytes : List ℕ) → writtenAt at [] bytes ≡ bytes

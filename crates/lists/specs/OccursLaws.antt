@@ -8,7 +8,7 @@ use native.Mathlib.Omega.{arith}
 use lib.Dec.{eqb, ltb}
 use lib.ListN.{length, getD}
 use borrow.Author.Tests.{eqb-true, eq-eqb, ne-eqb, ltb-true, ltb-false}
-use Rattle.filling.specs.Places.{occurs, distinct}
+use Rattle.lists.specs.Occurs.{occurs, distinct}
 
 -- The first number of a list occurs in it.
 pub occurs-here : (x : ℕ) (xs : List ℕ) → occurs x (x ∷ xs) ≡ true

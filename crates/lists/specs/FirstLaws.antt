@@ -6,7 +6,7 @@ use mathlib.Core.Option.{Option, none, some, orElse}
 use native.Mathlib.Omega.{arith}
 use lib.Dec.{ltb}
 use borrow.Author.Tests.{ltb-true, ltb-false}
-use Rattle.refusal.specs.First.{metAt, first, isSome}
+use Rattle.lists.specs.First.{metAt, first, isSome}
 
 -- The lowest index that passes is k.
 pub record FirstAt (test : ℕ → Bool) (limit k : ℕ) : Type 0 where

@@ -1,7 +1,7 @@
 -- What a test made of tests says of each. Assumes nothing.
 use mathlib.Core.Path.{_≡_, refl}
 use mathlib.Core.Logic.{_⊎_, inl, inr}
-use mathlib.Core.Bool.{Bool, true, false, not, _&&_, _||_, true≢false, false≢true}
+use mathlib.Core.Bool.{Bool, true, false, _&&_, _||_, true≢false, false≢true}
 
 -- Both hold where their conjunction does.
 pub both-of-and : (a b : Bool) → (a && b) ≡ true → (a ≡ true) × (b ≡ true)

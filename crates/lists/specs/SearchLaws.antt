@@ -5,8 +5,8 @@ use mathlib.Core.Option.{none, some, orElse}
 use Prim.Native.Nat.{ℕ, _+_, _≤_, _<_}
 use native.Mathlib.Numerals.{add-one}
 use native.Mathlib.Omega.{arith}
-use Rattle.refusal.specs.First.{first, metAt}
-use Rattle.refusal.specs.FirstLaws.{first-none, first-found}
+use Rattle.lists.specs.First.{first, metAt}
+use Rattle.lists.specs.FirstLaws.{first-none, first-found}
 
 -- A search that began at `from`, and that ends below the limit, has come to j: nothing before j passes the test.
 pub record Searched (test : ℕ → Bool) (from limit j : ℕ) : Type 0 where
