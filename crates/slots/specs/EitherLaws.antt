@@ -28,6 +28,6 @@ module _ (p q j : ℕ) where
   zero-of-either (inl e) = rw (e, xor-self, zero-mul)
   zero-of-either (inr e) = rw (e, xor-self, mul-zero)
 
-  -- The product fits a word.
+  -- Slots are below 2^12, so the product fits a word.
   pub either-fits : p < 2 ^ 12 → q < 2 ^ 12 → j < 2 ^ 12 → bitXor p j * bitXor q j < 2 ^ 24
   either-fits below below′ lower = product-fits 12 (xor-lt 12 p j below lower) (xor-lt 12 q j below′ lower)

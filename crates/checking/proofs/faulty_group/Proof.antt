@@ -8,9 +8,6 @@ use Rattle.lists.specs.SearchLaws.{Searched, searched-start, searched-turn, sea
 use Rattle.checking.specs.Steps.{faultyAt}
 use Rattle.checking.proofs.faulty_group.Statement.{statement}
 use Rattle.checking.proofs.faulty_group.Tie as tie
-use Rattle.checking.proofs.faulty_group.Reads as reads
-use Rattle.checking.proofs.faulty_group.Lts as lts
-use Rattle.opening.proofs.faulty.Reads as faulty-reads
 
 abbrev Inv-loop : tie.InvT-loop
 Inv-loop starts groups g₀ g = Searched (faultyAt starts) 0 groups g
