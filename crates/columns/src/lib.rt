@@ -3,8 +3,7 @@ ghost use mathlib.Core.Path.{_≡_};
 ghost use mathlib.Core.Bool.{cond};
 ghost use mathlib.Core.List.{[], _∷_};
 ghost use mathlib.Core.Option.{some, none};
-ghost use Prim.Native.Nat.{_<_};
-ghost use Rattle.digits.specs.Digits.{packed};
+ghost use Prim.Native.Nat.{_+_, _*_, _<_};
 ghost use Rattle.columns.specs.Columns.{leadingFrom, both};
 ghost use Rattle.columns.specs.Word.{written, numberIn};
 ghost use Rattle.columns.specs.Answer.{foursMeaning, eightMeaning};
@@ -64,7 +63,7 @@ fn read_columns(a: u8, b: u8, c: u8, d: u8, e: u8, f: u8, g: u8, h: u8, carry: u
 
 // Eight bytes in a word. The compiler makes one load of those that stand side by side.
 fn word_of(a: u8, b: u8, c: u8, d: u8, e: u8, f: u8, g: u8, h: u8) -> u64
-    ensures answer { λ r. ⌜ r ≡ packed (a ∷ b ∷ c ∷ d ∷ e ∷ f ∷ g ∷ h ∷ []) ⌝ }
+    ensures answer { λ r. ⌜ r ≡ a + 256 * (b + 256 * (c + 256 * (d + 256 * (e + 256 * (f + 256 * (g + 256 * (h + 256 * 0))))))) ⌝ }
 {
     let first = a as u64 + b as u64 * 256 + c as u64 * 65536 + d as u64 * 16777216;
     let last = e as u64 + f as u64 * 256 + g as u64 * 65536 + h as u64 * 16777216;

@@ -70,23 +70,23 @@ fn leading_column(v: u64, byte: u8) -> Field
     requires { ⌜ v < 1000000000000000000 ⌝ }
     ensures answer { λ r. ⌜ fieldMeaning r ≡ leadingFrom v (byte ∷ []) ⌝ }
 {
-    let digit = byte % 16;
-    if 10 <= digit {
+    let low = byte % 16;
+    if 10 <= low {
         return Field::Malformed;
     }
-    let n = v * 10 + digit as u64;
-    if byte != column_byte(n, digit) {
+    let n = v * 10 + low as u64;
+    if byte != column_byte(n, low) {
         return Field::Malformed;
     }
     Field::Value(n)
 }
 
-// How far a line's last column and its line feed, as one number, are above '0' and a line feed: at most 9 where they are a digit and
-// a line feed. What is below wraps far above 9.
+// How far a line's last column and its line feed, as one number, are above '0' and a line feed: at most 9 where they are a digit
+// and a line feed. What is below wraps far above 9.
 fn end_digit(byte: u8, feed: u8) -> u16
     ensures answer { λ r. ⌜ (r + 2608) % 65536 ≡ byte + 256 * feed ⌝ }
 {
-    std::num::wrapping_sub_u16(byte as u16 | feed as u16 * 256, 2608)
+    std::num::wrapping_sub_u16(byte as u16 | feed as u16 * 256, 0x0a30)
 }
 
 // The number in a field of so many columns that starts at a byte of the text. A field that the text cuts off is malformed.
@@ -173,11 +173,11 @@ fn pair_in(line: &[u8]) -> Pair
     if 10 <= first {
         return Pair::Malformed;
     }
-    let last = end_digit(line[9], line[10]);
-    if 10 <= last {
+    let second = end_digit(line[9], line[10]);
+    if 10 <= second {
         return Pair::Malformed;
     }
-    Pair::Numbers(m as u32 * 10 + first as u32, n as u32 * 10 + last as u32)
+    Pair::Numbers(m as u32 * 10 + first as u32, n as u32 * 10 + second as u32)
 }
 
 // The one tag of a whole line: the number in its ten columns, if it fits 32 bits.

@@ -5,6 +5,7 @@ use mathlib.Core.List.{List, [], _∷_}
 use Prim.Native.Nat.{ℕ, _+_, _<_}
 use native.Mathlib.Omega.{arith}
 use lib.Bits.{bitAnd, and-le-r}
+use Rattle.digits.specs.Digits.{packed}
 use Rattle.columns.proofs.Bytes.{Below, eight-bytes}
 use Rattle.columns.proofs.Numbers.{pairsOf, pairs-below, fours-below, no-digits, other-spaces, columns-read, first-number, last-number}
 use Rattle.columns.proofs.read_columns.Statement.{statement}
@@ -17,6 +18,7 @@ add-if1 : tie.Need-add-if1
 add-if1 c = omega (arith, and-le-r (c .word-of .result) 1085102592571150095)
 
 returns : tie.Need-returns
+unfolding packed
 returns c =
     let read = c .before in
     let a = read .before .args in
@@ -34,6 +36,7 @@ sub-if2 c =
     omega (arith, and-le-r (bitAnd word 1085102592571150095 + c .before .before .args .carry) 1157442765409226768)
 
 returns-2 : tie.Need-returns-2
+unfolding packed
 returns-2 c =
     let digits = c .before in
     let read = digits .before in
@@ -59,6 +62,7 @@ cast-t20 : tie.Need-cast-t20
 cast-t20 c = omega (arith, fours-below (pairsOf (bitAnd (c .before .before .word-of .result) 1085102592571150095)))
 
 returns-3 : tie.Need-returns-3
+unfolding packed
 returns-3 c =
     let digits = c .before in
     let read = digits .before in
