@@ -1,11 +1,12 @@
 -- Packed bytes under a mask, byte by byte. Assumes nothing.
 use mathlib.Core.Path.{_≡_, refl, _∙_, ap}
 use mathlib.Core.List.{List, [], _∷_}
-use Prim.Native.Nat.{ℕ, zero, suc, _+_, _*_, _/_, _%_, _<_}
+use Prim.Native.Nat.{ℕ, zero, suc, _+_, _*_, _/_, _%_, _≤_, _<_}
 use native.Mathlib.Omega.{arith}
 use lib.Bits.{bitAnd, and-block, and-mask, and-high}
 use lib.Dec.{lit<}
-use lib.ListN.{length}
+use lib.ListN.{length, getD, take, drop}
+use lib.Seq.{drop-cons}
 use Rattle.digits.specs.Digits.{packed}
 use Rattle.columns.specs.Word.{each, low}
 
@@ -14,10 +15,24 @@ unfoldable pub Below : ℕ → List ℕ → Type 0
 Below bound [] = Unit
 Below bound (x ∷ xs) = (x < bound) × Below bound xs
 
-pub eight-bytes : {a b c d e f g h : ℕ} → a < 256 → b < 256 → c < 256 → d < 256 → e < 256 → f < 256 → g < 256 → h < 256
-    → Below 256 (a ∷ b ∷ c ∷ d ∷ e ∷ f ∷ g ∷ h ∷ [])
-unfolding Below
-eight-bytes ha hb hc hd he hf hg hh = (ha, (hb, (hc, (hd, (he, (hf, (hg, (hh, tt))))))))
+-- Four bytes of a text, one by one.
+abbrev pub fourAt : List ℕ → ℕ → List ℕ
+fourAt s at = getD s at 0 ∷ getD s (at + 1) 0 ∷ getD s (at + 2) 0 ∷ getD s (at + 3) 0 ∷ []
+
+pub four-bytes-at : (s : List ℕ) (at : ℕ) → at + 4 ≤ length s → take 4 (drop at s) ≡ fourAt s at
+four-bytes-at s at h =
+    let one : at + 1 ≡ suc at = omega arith in
+    let two : at + 2 ≡ suc (suc at) = omega arith in
+    let three : at + 3 ≡ suc (suc (suc at)) = omega arith in
+    rw (
+      drop-cons s at 0 (omega arith),
+      drop-cons s (suc at) 0 (omega arith),
+      drop-cons s (suc (suc at)) 0 (omega arith),
+      drop-cons s (suc (suc (suc at))) 0 (omega arith),
+      one,
+      two,
+      three,
+    )
 
 pub packed-same : (xs ys : List ℕ) → length xs ≡ length ys → Below 256 xs → Below 256 ys → packed xs ≡ packed ys → xs ≡ ys
 unfolding packed Below

@@ -1,15 +1,17 @@
 -- The numbers of eight columns, made two columns at a time from a word of their digits. Assumes nothing.
 use mathlib.Core.Path.{_≡_, sym, _∙_}
-use mathlib.Core.Bool.{Bool, true, false}
-use mathlib.Core.List.{List, [], _∷_}
+use mathlib.Core.Bool.{false, true}
+use mathlib.Core.List.{List, [], _∷_, _++_}
+use mathlib.Core.Option.{Option, none, some}
 use Prim.Native.Nat.{ℕ, _+_, _*_, _/_, _%_, _-_, _≤_, _<_}
 use native.Mathlib.Omega.{arith}
 use lib.Bits.{bitAnd, and-block, and-mask, and-le-r, and-zero-r}
+use lib.ListN.{length, getD, take, drop}
 use lib.Dec.{eqb, lit<}
 use borrow.Author.Tests.{eq-eqb, ne-eqb}
 use Rattle.digits.specs.Digits.{packed}
-use Rattle.columns.specs.Word.{each, low, valueBehind, numberIn, written}
-use Rattle.columns.proofs.Bytes.{Below, low-packed, digits-only}
+use Rattle.columns.specs.Word.{each, low, valueBehind, numberIn, written, columnsRead}
+use Rattle.columns.proofs.Bytes.{Below, fourAt, four-bytes-at, low-packed, digits-only}
 
 -- Digits d and e, with digits x above them: their pair is made where d stands, and the mask clears what comes beside it.
 pair : (d e x mask : ℕ) → d < 10 → e < 10 → x % 256 < 10
@@ -70,52 +72,58 @@ module _ (a b c d e f g h : ℕ) (ha : a < 10) (hb : b < 10) (hc : c < 10) (hd :
       (lowest (10 * e + f) (10 * g + h + 65536 * 0) (omega arith))
       ∙ rw (four (10 * e + f) (10 * g + h) 0 0 (omega arith) (omega arith) (omega arith)) (omega (arith, and-zero-r 0)))
 
--- What the tests of the code say of the eight bytes in its word, and the numbers that it makes of them.
-module _ (carry word a b c d e f g h : ℕ) where
+-- What the tests of the code say of eight bytes of a line in its word, and the numbers that it makes of them.
+module _ (line : List ℕ) (second carry word : ℕ) (near : 4 ≤ second) (room : second + 4 ≤ length line) (small : (k : ℕ) → getD line k 0 < 256) (packs : word ≡ packed (take 4 line) + packed (take 4 (drop second line)) * 4294967296) where
   abbrev bytes : List ℕ
-  bytes = a ∷ b ∷ c ∷ d ∷ e ∷ f ∷ g ∷ h ∷ []
+  bytes = fourAt line 0 ++ fourAt line second
 
   abbrev digits : ℕ
   digits = bitAnd word 1085102592571150095
 
-  module _ (small : Below 256 bytes) (packs : word ≡ packed bytes) where
-    digits-are : digits ≡ packed (low bytes)
-    unfolding each
-    digits-are = rw packs (low-packed bytes small)
+  abbrev answer : Option (ℕ × ℕ)
+  answer = columnsRead carry (take 4 line) (take 4 (drop second line))
 
-    pub no-digits : (bitAnd (digits + 434041037028460038) 1157442765409226768 ≡ 0 → ⊥) → written carry bytes ≡ false
-    unfolding written each
-    no-digits other = rw (ne-eqb (bitAnd (packed (low bytes) + 434041037028460038) 1157442765409226768) 0 (λ z. other (rw digits-are z)))
+  bytes-small : Below 256 bytes
+  unfolding Below
+  bytes-small = (small _, (small _, (small _, (small _, (small _, (small _, (small _, (small _, tt))))))))
 
-    module _ (clear : bitAnd (digits + 434041037028460038) 1157442765409226768 ≡ 0) where
-      pub other-spaces : (word ≡ digits + 3472328296227680304 - bitAnd (digits + carry) 1157442765409226768 → ⊥) → written carry bytes ≡ false
-      unfolding written each
-      other-spaces other =
-          let z = rw digits-are at clear in
-          rw (
-            z,
-            ne-eqb (packed bytes) (packed (low bytes) + 3472328296227680304 - bitAnd (packed (low bytes) + carry) 1157442765409226768)
-                (λ s. other (packs ∙ rw digits-are s)),
-          )
+  answer-is : answer ≡ columnsRead carry (fourAt line 0) (fourAt line second)
+  answer-is = rw (four-bytes-at line 0 (omega arith), four-bytes-at line second room)
 
-      pub columns-read : word ≡ digits + 3472328296227680304 - bitAnd (digits + carry) 1157442765409226768 → written carry bytes ≡ true
-      unfolding written each
-      columns-read spaced =
-          let z = rw digits-are at clear in
-          rw (
-            z,
-            eq-eqb (packed bytes) (packed (low bytes) + 3472328296227680304 - bitAnd (packed (low bytes) + carry) 1157442765409226768)
-                (sym packs ∙ rw digits-are at spaced),
-          )
+  word-is : word ≡ packed bytes
+  unfolding packed
+  word-is = packs ∙ rw (four-bytes-at line 0 (omega arith), four-bytes-at line second room) (omega arith)
 
-      numbers : (foursOf (pairsOf digits) ≡ numberIn (a ∷ b ∷ c ∷ d ∷ []) + 4294967296 * numberIn (e ∷ f ∷ g ∷ h ∷ [])) × (numberIn (a ∷ b ∷ c ∷ d ∷ []) < 10000)
-      unfolding each Below low valueBehind numberIn
-      numbers =
-          let (i, (j, (k, (l, (m, (n, (o, (p, end)))))))) = digits-only bytes (rw digits-are at clear) in
-          (rw digits-are (fours-made (a % 16) (b % 16) (c % 16) (d % 16) (e % 16) (f % 16) (g % 16) (h % 16) i j k l m n o p ∙ omega arith), omega arith)
+  digits-are : digits ≡ packed (low bytes)
+  unfolding each
+  digits-are = rw word-is (low-packed bytes bytes-small)
 
-      pub first-number : foursOf (pairsOf digits) % 65536 ≡ numberIn (a ∷ b ∷ c ∷ d ∷ [])
-      first-number = omega (arith, numbers .0, numbers .1)
+  pub no-digits : (bitAnd (digits + 434041037028460038) 1157442765409226768 ≡ 0 → ⊥) → none ≡ answer
+  unfolding written each columnsRead
+  no-digits other =
+      rw (answer-is, ne-eqb (bitAnd (packed (low bytes) + 434041037028460038) 1157442765409226768) 0 (λ z. other (rw digits-are z)))
 
-      pub last-number : foursOf (pairsOf digits) / 4294967296 ≡ numberIn (e ∷ f ∷ g ∷ h ∷ [])
-      last-number = omega (arith, numbers .0, numbers .1)
+  module _ (clear : bitAnd (digits + 434041037028460038) 1157442765409226768 ≡ 0) where
+    abbrev expected : ℕ
+    expected = packed (low bytes) + 3472328296227680304 - bitAnd (packed (low bytes) + carry) 1157442765409226768
+
+    pub other-spaces : (word ≡ digits + 3472328296227680304 - bitAnd (digits + carry) 1157442765409226768 → ⊥) → none ≡ answer
+    unfolding written each columnsRead
+    other-spaces other =
+        let z = rw digits-are at clear in
+        rw (answer-is, z, ne-eqb (packed bytes) expected (λ s. other (word-is ∙ rw digits-are s)))
+
+    numbers : (foursOf (pairsOf digits) ≡ numberIn (fourAt line 0) + 4294967296 * numberIn (fourAt line second)) × (numberIn (fourAt line 0) < 10000)
+    unfolding each Below low valueBehind numberIn
+    numbers =
+        let (i, (j, (k, (l, (m, (n, (o, (p, end)))))))) = digits-only bytes (rw digits-are at clear) in
+        (rw digits-are (fours-made _ _ _ _ _ _ _ _ i j k l m n o p ∙ omega arith), omega arith)
+
+    pub columns-read : word ≡ digits + 3472328296227680304 - bitAnd (digits + carry) 1157442765409226768
+        → some (foursOf (pairsOf digits) % 65536, foursOf (pairsOf digits) / 4294967296) ≡ answer
+    unfolding written each columnsRead
+    columns-read spaced =
+        let z = rw digits-are at clear in
+        let first : foursOf (pairsOf digits) % 65536 ≡ numberIn (fourAt line 0) = omega (arith, numbers .0, numbers .1) in
+        let last : foursOf (pairsOf digits) / 4294967296 ≡ numberIn (fourAt line second) = omega (arith, numbers .0, numbers .1) in
+        rw (answer-is, z, eq-eqb (packed bytes) expected (sym word-is ∙ rw digits-are at spaced), first, last)

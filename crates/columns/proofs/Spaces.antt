@@ -7,12 +7,13 @@ use Prim.Native.Nat.{ℕ, zero, suc, _+_, _*_, _-_, _/_, _%_, _≤_, _<_}
 use native.Mathlib.Omega.{arith}
 use lib.Bits.{bitAnd, and-block, and-le-r}
 use lib.Dec.{eqb, ltb, lit<}
-use lib.ListN.{length}
+use lib.ListN.{length, getD, take, drop}
+use lib.Seq.{take-add}
 use borrow.Author.Tests.{eq-eqb, ne-eqb, eqb-true, eqb-false, lt-ltb, ltb-true}
 use Rattle.digits.specs.Digits.{packed}
 use Rattle.columns.specs.Columns.{columnOf, leadingFrom, both}
-use Rattle.columns.specs.Word.{each, low, valueBehind, numberIn, written}
-use Rattle.columns.proofs.Bytes.{Below, packed-same, and-byte, bit-sixteen, low-length, digits-only, digits-clear}
+use Rattle.columns.specs.Word.{each, low, valueBehind, numberIn, written, columnsRead}
+use Rattle.columns.proofs.Bytes.{Below, fourAt, four-bytes-at, packed-same, and-byte, bit-sixteen, low-length, digits-only, digits-clear}
 
 -- The leading columns with these digits, behind those of v.
 unfoldable columnsFrom : ℕ → List ℕ → List ℕ
@@ -266,16 +267,32 @@ module _ (a b c d e f g h : ℕ) (small : Below 256 (a ∷ b ∷ c ∷ d ∷ e �
       (and-swap (eqb (bitAnd (m + 101058054) 269488144) 0) (eqb (bitAnd (n + 101058054) 269488144) 0)
       (eqb (packed first) (m + 808464432 - s)) (eqb (packed last) (n + 808464432 - t)))
 
-  pub fours-leading : cond (written 9223372034707292159 (first ++ last)) (some (numberIn first, numberIn last)) none ≡ both (leadingFrom 0 first) (leadingFrom 0 last)
-  unfolding carry
+  fours-leading : columnsRead 9223372034707292159 first last ≡ both (leadingFrom 0 first) (leadingFrom 0 last)
+  unfolding carry columnsRead
   fours-leading =
       rw (written-halves, ← written-leading 3 first refl first-small, ← written-leading 3 last refl last-small)
       (cond-both (written 2147483647 first) (written 2147483647 last) (numberIn first) (numberIn last))
 
-  pub eight-leading : (o : Option (ℕ × ℕ)) → o ≡ cond (written 9223372036854775807 (first ++ last)) (some (numberIn first, numberIn last)) none
+  eight-leading : (o : Option (ℕ × ℕ)) → o ≡ columnsRead 9223372036854775807 first last
       → Option·map (λ (x : ℕ × ℕ). x .0 * 10000 + x .1) o ≡ leadingFrom 0 (first ++ last)
-  unfolding carry numberIn low valueBehind
+  unfolding carry numberIn low valueBehind columnsRead
   eight-leading o e =
       let value : numberIn first * 10000 + numberIn last ≡ numberIn (first ++ last) = omega arith in
       rw (e, cond-map (written 9223372036854775807 (first ++ last)) (numberIn first) (numberIn last), value)
       (written-leading 7 (first ++ last) refl small)
+
+-- The columns of a line.
+module _ (line : List ℕ) (small : (k : ℕ) → getD line k 0 < 256) where
+  small-at : (second : ℕ) → Below 256 (fourAt line 0 ++ fourAt line second)
+  unfolding Below
+  small-at second = (small _, (small _, (small _, (small _, (small _, (small _, (small _, (small _, tt))))))))
+
+  pub line-fours : 9 ≤ length line → columnsRead 9223372034707292159 (take 4 line) (take 4 (drop 5 line)) ≡ both (leadingFrom 0 (take 4 line)) (leadingFrom 0 (take 4 (drop 5 line)))
+  line-fours room =
+      rw (four-bytes-at line 0 (omega arith), four-bytes-at line 5 (omega arith)) (fours-leading _ _ _ _ _ _ _ _ (small-at 5))
+
+  pub line-eight : 8 ≤ length line → (o : Option (ℕ × ℕ)) → o ≡ columnsRead 9223372036854775807 (take 4 line) (take 4 (drop 4 line))
+      → Option·map (λ (x : ℕ × ℕ). x .0 * 10000 + x .1) o ≡ leadingFrom 0 (take 8 line)
+  line-eight room o e =
+      rw (take-add 4 4 line, four-bytes-at line 0 (omega arith), four-bytes-at line 4 (omega arith))
+      (eight-leading _ _ _ _ _ _ _ _ (small-at 4) o (e ∙ rw (four-bytes-at line 0 (omega arith), four-bytes-at line 4 (omega arith))))

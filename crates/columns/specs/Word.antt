@@ -1,7 +1,8 @@
 -- What is tested of bytes in one word. Assumes nothing.
 use Prim.Native.Nat.{ℕ, zero, suc, _+_, _*_, _-_, _%_}
-use mathlib.Core.Bool.{Bool, _&&_}
-use mathlib.Core.List.{List, [], _∷_}
+use mathlib.Core.Bool.{Bool, cond, _&&_}
+use mathlib.Core.List.{List, [], _∷_, _++_}
+use mathlib.Core.Option.{Option, none, some}
 use lib.Bits.{bitAnd}
 use lib.Dec.{eqb}
 use lib.ListN.{length}
@@ -33,3 +34,7 @@ written carry bytes =
     let sixteens = each (length bytes) 16 in
     eqb (bitAnd (digits + each (length bytes) 6) sixteens) 0
     && eqb (packed bytes) (digits + each (length bytes) 48 - bitAnd (digits + carry) sixteens)
+
+-- The numbers in four columns and four others, where all are written so.
+unfoldable pub columnsRead : ℕ → List ℕ → List ℕ → Option (ℕ × ℕ)
+columnsRead carry first last = cond (written carry (first ++ last)) (some (numberIn first, numberIn last)) none

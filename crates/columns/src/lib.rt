@@ -1,11 +1,10 @@
 // Eight columns of a text read in one word: the first column in its lowest byte.
 ghost use mathlib.Core.Path.{_≡_};
-ghost use mathlib.Core.Bool.{cond};
-ghost use mathlib.Core.List.{[], _∷_};
-ghost use mathlib.Core.Option.{some, none};
-ghost use Prim.Native.Nat.{_+_, _*_, _<_};
+ghost use Prim.Native.Nat.{_+_, _*_, _≤_, _<_};
+ghost use lib.ListN.{length, take, drop};
+ghost use Rattle.digits.specs.Digits.{packed};
 ghost use Rattle.columns.specs.Columns.{leadingFrom, both};
-ghost use Rattle.columns.specs.Word.{written, numberIn};
+ghost use Rattle.columns.specs.Word.{columnsRead};
 ghost use Rattle.columns.specs.Answer.{foursMeaning, eightMeaning};
 
 // The numbers whose leading columns four bytes and four bytes are.
@@ -20,31 +19,34 @@ pub enum Eight {
     Other,
 }
 
-// Reads four leading columns of one number and four of another.
-pub fn two_fours(a: u8, b: u8, c: u8, d: u8, e: u8, f: u8, g: u8, h: u8) -> Fours
-    ensures answer { λ r. ⌜ foursMeaning r ≡ both (leadingFrom 0 (a ∷ b ∷ c ∷ d ∷ [])) (leadingFrom 0 (e ∷ f ∷ g ∷ h ∷ [])) ⌝ }
+// Reads the leading columns of a line's two fields: its first four columns, and four from the sixth on.
+pub fn two_fours(line: &[u8]) -> Fours
+    requires { ⌜ 9 ≤ length (now line) ⌝ }
+    ensures answer { λ r. ⌜ foursMeaning r ≡ both (leadingFrom 0 (take 4 (now (line .entry)))) (leadingFrom 0 (take 4 (drop 5 (now (line .entry))))) ⌝ }
 {
-    read_columns(a, b, c, d, e, f, g, h, 0x7fffffff7fffffff)
+    read_columns(line, 5, 0x7fffffff7fffffff)
 }
 
-// Reads eight leading columns of one number.
-pub fn eight_columns(a: u8, b: u8, c: u8, d: u8, e: u8, f: u8, g: u8, h: u8) -> Eight
-    ensures answer { λ r. ⌜ eightMeaning r ≡ leadingFrom 0 (a ∷ b ∷ c ∷ d ∷ e ∷ f ∷ g ∷ h ∷ []) ⌝ }
+// Reads the first eight columns of a line's one field.
+pub fn eight_columns(line: &[u8]) -> Eight
+    requires { ⌜ 8 ≤ length (now line) ⌝ }
+    ensures answer { λ r. ⌜ eightMeaning r ≡ leadingFrom 0 (take 8 (now (line .entry))) ⌝ }
 {
-    let Fours::Numbers(first, last) = read_columns(a, b, c, d, e, f, g, h, 0x7fffffffffffffff)
-    else {
+    let Fours::Numbers(first, last) = read_columns(line, 4, 0x7fffffffffffffff) else {
         return Eight::Other;
     };
     Eight::Number(first as u32 * 10000 + last as u32)
 }
 
-// Reads eight columns of digits and spaces. A space counts as the digit 0, and stands where adding `carry` to the digits sets
-// bit 16 of its byte: with 255 for each column and 127 for the last, that is in every column before the first other digit.
-fn read_columns(a: u8, b: u8, c: u8, d: u8, e: u8, f: u8, g: u8, h: u8, carry: u64) -> Fours
+// Reads the first four columns and four from `second` on, of digits and spaces. A space counts as the digit 0, and stands where
+// adding `carry` to the digits sets bit 16 of its byte: with 255 for each column and 127 for the last, that is in every column
+// before the first other digit.
+fn read_columns(line: &[u8], second: usize, carry: u64) -> Fours
+    requires { ⌜ (4 ≤ second) × (second + 4 ≤ length (now line)) ⌝ }
     requires { ⌜ carry < 9223372036854775808 ⌝ }
-    ensures answer { λ r. ⌜ foursMeaning r ≡ cond (written carry (a ∷ b ∷ c ∷ d ∷ e ∷ f ∷ g ∷ h ∷ [])) (some (numberIn (a ∷ b ∷ c ∷ d ∷ []), numberIn (e ∷ f ∷ g ∷ h ∷ []))) none ⌝ }
+    ensures answer { λ r. ⌜ foursMeaning r ≡ columnsRead carry (take 4 (now (line .entry))) (take 4 (drop second (now (line .entry)))) ⌝ }
 {
-    let word = word_of(a, b, c, d, e, f, g, h);
+    let word = four_bytes(line, 0) + four_bytes(line, second) * 4294967296;
     let digits = word & 0x0f0f0f0f0f0f0f0f;
     // Half a byte above 9 comes to 16 or more.
     if (digits + 0x0606060606060606) & 0x1010101010101010 != 0 {
@@ -61,11 +63,18 @@ fn read_columns(a: u8, b: u8, c: u8, d: u8, e: u8, f: u8, g: u8, h: u8, carry: u
     Fours::Numbers((fours % 65536) as u16, (fours / 4294967296) as u16)
 }
 
-// Eight bytes in a word. The compiler makes one load of those that stand side by side.
-fn word_of(a: u8, b: u8, c: u8, d: u8, e: u8, f: u8, g: u8, h: u8) -> u64
-    ensures answer { λ r. ⌜ r ≡ a + 256 * (b + 256 * (c + 256 * (d + 256 * (e + 256 * (f + 256 * (g + 256 * (h + 256 * 0))))))) ⌝ }
+// Four bytes of a text in a word. The compiler makes one load of them.
+fn four_bytes(s: &[u8], at: usize) -> u64
+    requires { ⌜ at + 4 ≤ length (now s) ⌝ }
+    ensures answer { λ r. ⌜ r ≡ packed (take 4 (drop at (now (s .entry)))) ⌝ }
+    ensures below { λ r. ⌜ r < 4294967296 ⌝ }
 {
-    let first = a as u64 + b as u64 * 256 + c as u64 * 65536 + d as u64 * 16777216;
-    let last = e as u64 + f as u64 * 256 + g as u64 * 65536 + h as u64 * 16777216;
-    first + last * 4294967296
+    four(s[at], s[at + 1], s[at + 2], s[at + 3])
+}
+
+fn four(a: u8, b: u8, c: u8, d: u8) -> u64
+    ensures answer { λ r. ⌜ r ≡ a + 256 * (b + 256 * (c + 256 * (d + 256 * 0))) ⌝ }
+    ensures below { λ r. ⌜ r < 4294967296 ⌝ }
+{
+    a as u64 + b as u64 * 256 + c as u64 * 65536 + d as u64 * 16777216
 }

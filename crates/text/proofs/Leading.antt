@@ -7,8 +7,8 @@ use Prim.Native.Nat.{ℕ, zero, suc, _+_, _*_, _/_, _%_, _^_, _≤_, _<_}
 use native.Mathlib.Omega.{arith}
 use native.Mathlib.Nat.{pow-suc, add-zero}
 use lib.Dec.{eqb, ltb}
-use lib.ListN.{length}
-use lib.Seq.{append-snoc, take-at, getD-at}
+use lib.ListN.{length, getD, take, drop, length-drop}
+use lib.Seq.{append-snoc, take-at, take-suc, getD-at, getD-drop, length-take-le}
 use borrow.Author.Tests.{eq-eqb, ne-eqb, eqb-true, eqb-false, lt-ltb, le-ltb, ltb-true}
 use Rattle.columns.specs.Columns.{columnOf, leadingFrom}
 use Rattle.columns.specs.ColumnsLaws.{leadingBehind, leading-append}
@@ -118,3 +118,10 @@ field-ends xs byte n e =
       leads = ap (leadingFrom 0) front ∙ leading-reads k (n / 10) (omega (arith, pow-suc 10 k));
       digit = sym (getD-at xs byte [] 0 k refl) ∙ rw is (getD-at (leading k (n / 10)) (48 + n % 10) [] 0 k same);
     }
+
+-- The field of k columns and one, as a part of a text.
+pub part-field : (k at : ℕ) (bytes : List ℕ) → at + suc k ≤ length bytes
+    → field (suc k) (take (suc k) (drop at bytes)) ≡ field (suc (length (take k (drop at bytes)))) (take k (drop at bytes) ++ (getD bytes (at + k) 0 ∷ []))
+part-field k at bytes h =
+    let room : k < length (drop at bytes) = simp length-drop (omega arith) in
+    rw (length-take-le k (drop at bytes) (omega arith), take-suc (drop at bytes) k 0 room, getD-drop at bytes k 0)

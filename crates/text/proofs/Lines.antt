@@ -7,24 +7,14 @@ use Prim.Native.Nat.{ℕ, zero, suc, _+_, _*_, _%_, _≤_, _<_}
 use native.Mathlib.Omega.{arith}
 use lib.Dec.{eqb}
 use lib.ListN.{length, getD, take, drop, length-take, length-drop}
-use lib.Seq.{drop-cons}
+use lib.Seq.{take-suc, length-take-le}
 use borrow.Author.Tests.{eq-eqb, ne-eqb, eqb-true}
 use Rattle.columns.specs.Columns.{leadingFrom, both}
 use Rattle.columns.specs.ColumnsLaws.{leadingBehind, leading-append}
 use Rattle.text.specs.Field.{field}
 use Rattle.text.specs.Line.{ended, bothFields, pairOf, tagOf}
 use Rattle.text.specs.LineLaws.{ended-short, ended-whole}
-use Rattle.text.proofs.Leading.{leading-below, field-digit, field-ends}
-
--- The bytes of a part of a text, one by one.
-unfoldable pub cells : ℕ → ℕ → List ℕ → List ℕ
-cells zero at bytes = []
-cells (suc k) at bytes = getD bytes at 0 ∷ cells k (suc at) bytes
-
-part-cells : (k at : ℕ) (bytes : List ℕ) → at + k ≤ length bytes → take k (drop at bytes) ≡ cells k at bytes
-unfolding cells
-part-cells zero at bytes h = refl
-part-cells (suc k) at bytes h = rw (drop-cons bytes at 0 (omega arith), part-cells k (suc at) bytes (omega arith))
+use Rattle.text.proofs.Leading.{leading-below, field-digit, field-ends, part-field}
 
 -- A line that the text cuts off is malformed.
 cut-off : (bytes : List ℕ) (at : ℕ) → length bytes < at + 11 → length (take 11 (drop at bytes)) ≡ 11 → ⊥
@@ -74,70 +64,70 @@ module _ (line : List ℕ) (whole : length line ≡ 11) where
   ended-feed e = ended-whole line whole ∙ eq-eqb feed 10 e
 
   -- Two fields.
-  pub pair-some : {m n x y : ℕ} → leadingFrom 0 (cells 4 0 line) ≡ some m → leadingFrom 0 (cells 4 5 line) ≡ some n
+  pub pair-some : {m n x y : ℕ} → leadingFrom 0 (take 4 line) ≡ some m → leadingFrom 0 (take 4 (drop 5 line)) ≡ some n
       → getD line 4 0 ≡ 48 + x → x < 10 → getD line 9 0 ≡ 48 + y → y < 10 → feed ≡ 10
       → pairOf line ≡ some (m * 10 + x, n * 10 + y)
-  unfolding pairOf bothFields cells
+  unfolding pairOf bothFields
   pair-some {m} {n} {x} {y} first second a h b i end =
       rw (
         ended-feed end,
-        part-cells 5 0 line (omega arith),
-        part-cells 5 5 line (omega arith),
+        part-field 4 0 line (omega arith),
+        part-field 4 5 line (omega arith),
         a,
         b,
-        field-digit (cells 4 0 line) m x first h,
-        field-digit (cells 4 5 line) n y second i,
+        field-digit (take 4 line) m x first h,
+        field-digit (take 4 (drop 5 line)) n y second i,
       )
 
-  pub pair-none : ((m n x y : ℕ) → leadingFrom 0 (cells 4 0 line) ≡ some m → leadingFrom 0 (cells 4 5 line) ≡ some n
+  pub pair-none : ((m n x y : ℕ) → leadingFrom 0 (take 4 line) ≡ some m → leadingFrom 0 (take 4 (drop 5 line)) ≡ some n
       → x < 10 → getD line 4 0 ≡ 48 + x → y < 10 → getD line 9 0 ≡ 48 + y → feed ≡ 10 → ⊥)
       → pairOf line ≡ none
-  unfolding pairOf bothFields cells
+  unfolding pairOf bothFields
   pair-none never = rw (ended-whole line whole) (go (eqb feed 10) refl)
     where
-      fields : feed ≡ 10 → (o p : Option ℕ) → field 5 (cells 5 0 line) ≡ o → field 5 (cells 5 5 line) ≡ p → bothFields o p ≡ none
+      fields : feed ≡ 10 → (o p : Option ℕ) → field 5 (take 5 line) ≡ o → field 5 (take 5 (drop 5 line)) ≡ p → bothFields o p ≡ none
       fields end none p f g = refl
       fields end (some a) none f g = refl
       fields end (some a) (some b) f g =
-          let first = field-ends (cells 4 0 line) (getD line 4 0) a f in
-          let second = field-ends (cells 4 5 line) (getD line 9 0) b g in
+          let first = field-ends (take 4 line) (getD line 4 0) a (sym (part-field 4 0 line (omega arith)) ∙ f) in
+          let second = field-ends (take 4 (drop 5 line)) (getD line 9 0) b (sym (part-field 4 5 line (omega arith)) ∙ g) in
           absurd (never _ _ _ _ (first .leads) (second .leads) (omega arith) (first .digit) (omega arith) (second .digit) end)
 
       go : (b : Bool) → eqb feed 10 ≡ b → cond b (bothFields (field 5 (take 5 line)) (field 5 (take 5 (drop 5 line)))) none ≡ none
       go false e = refl
-      go true e =
-          rw (part-cells 5 0 line (omega arith), part-cells 5 5 line (omega arith))
-          (fields (eqb-true feed 10 e) (field 5 (cells 5 0 line)) (field 5 (cells 5 5 line)) refl refl)
+      go true e = fields (eqb-true feed 10 e) (field 5 (take 5 line)) (field 5 (take 5 (drop 5 line))) refl refl
 
   -- One field.
-  pub tag-some : {n y : ℕ} → leadingFrom 0 (cells 9 0 line) ≡ some n → getD line 9 0 ≡ 48 + y → y < 10 → feed ≡ 10 → tagOf line ≡ some (n * 10 + y)
-  unfolding tagOf cells
+  pub tag-some : {n y : ℕ} → leadingFrom 0 (take 9 line) ≡ some n → getD line 9 0 ≡ 48 + y → y < 10 → feed ≡ 10 → tagOf line ≡ some (n * 10 + y)
+  unfolding tagOf
   tag-some {n} {y} leading b i end =
-      rw (ended-feed end, part-cells 10 0 line (omega arith), b, field-digit (cells 9 0 line) n y leading i)
+      rw (ended-feed end, part-field 9 0 line (omega arith), b, field-digit (take 9 line) n y leading i)
 
-  pub tag-none : ((n y : ℕ) → leadingFrom 0 (cells 9 0 line) ≡ some n → y < 10 → getD line 9 0 ≡ 48 + y → feed ≡ 10 → ⊥) → tagOf line ≡ none
-  unfolding tagOf cells
+  pub tag-none : ((n y : ℕ) → leadingFrom 0 (take 9 line) ≡ some n → y < 10 → getD line 9 0 ≡ 48 + y → feed ≡ 10 → ⊥) → tagOf line ≡ none
+  unfolding tagOf
   tag-none never = rw (ended-whole line whole) (go (eqb feed 10) refl)
     where
-      columns : feed ≡ 10 → (o : Option ℕ) → field 10 (cells 10 0 line) ≡ o → o ≡ none
+      columns : feed ≡ 10 → (o : Option ℕ) → field 10 (take 10 line) ≡ o → o ≡ none
       columns end none f = refl
       columns end (some t) f =
-          let ends = field-ends (cells 9 0 line) (getD line 9 0) t f in
+          let ends = field-ends (take 9 line) (getD line 9 0) t (sym (part-field 9 0 line (omega arith)) ∙ f) in
           absurd (never _ _ (ends .leads) (omega arith) (ends .digit) end)
 
       go : (b : Bool) → eqb feed 10 ≡ b → cond b (field 10 (take 10 line)) none ≡ none
       go false e = refl
-      go true e = rw (part-cells 10 0 line (omega arith)) (columns (eqb-true feed 10 e) (field 10 (cells 10 0 line)) refl)
+      go true e = columns (eqb-true feed 10 e) (field 10 (take 10 line)) refl
 
   -- Nine leading columns: eight, and one more.
-  pub nine-none : none ≡ leadingFrom 0 (cells 8 0 line) → none ≡ leadingFrom 0 (cells 9 0 line)
-  unfolding cells leadingBehind
-  nine-none e = sym (leading-append 0 (cells 8 0 line) (getD line 8 0 ∷ []) ∙ rw (← e))
+  nine-columns : leadingFrom 0 (take 9 line) ≡ leadingBehind (leadingFrom 0 (take 8 line)) (getD line 8 0 ∷ [])
+  nine-columns = rw (take-suc line 8 0 (omega arith)) (leading-append 0 (take 8 line) (getD line 8 0 ∷ []))
 
-  pub nine-more : {v : ℕ} → some v ≡ leadingFrom 0 (cells 8 0 line) → leadingFrom v (getD line 8 0 ∷ []) ≡ leadingFrom 0 (cells 9 0 line)
-  unfolding cells leadingBehind
-  nine-more e = sym (leading-append 0 (cells 8 0 line) (getD line 8 0 ∷ []) ∙ rw (← e))
+  pub nine-none : none ≡ leadingFrom 0 (take 8 line) → none ≡ leadingFrom 0 (take 9 line)
+  unfolding leadingBehind
+  nine-none e = sym (nine-columns ∙ rw (← e))
 
-  pub nine-below : {n : ℕ} → some n ≡ leadingFrom 0 (cells 9 0 line) → n < 1000000000
-  unfolding cells
-  nine-below e = leading-below (cells 9 0 line) (sym e)
+  pub nine-more : {v : ℕ} → some v ≡ leadingFrom 0 (take 8 line) → leadingFrom v (getD line 8 0 ∷ []) ≡ leadingFrom 0 (take 9 line)
+  unfolding leadingBehind
+  nine-more e = sym (nine-columns ∙ rw (← e))
+
+  pub nine-below : {n : ℕ} → some n ≡ leadingFrom 0 (take 9 line) → n < 1000000000
+  nine-below e = rw (length-take-le 9 line (omega arith)) at (leading-below (take 9 line) (sym e))

@@ -156,17 +156,7 @@ fn pair_in(line: &[u8]) -> Pair
     requires { ⌜ length (now line) ≡ lineLength ⌝ }
     ensures answer { λ r. ⌜ pairMeaning r ≡ pairOf (now (line .entry)) ⌝ }
 {
-    let leading = columns::two_fours(
-        line[0],
-        line[1],
-        line[2],
-        line[3],
-        line[5],
-        line[6],
-        line[7],
-        line[8],
-    );
-    let Fours::Numbers(m, n) = leading else {
+    let Fours::Numbers(m, n) = columns::two_fours(line) else {
         return Pair::Malformed;
     };
     let first = std::num::wrapping_sub_u8(line[4], b'0');
@@ -185,17 +175,7 @@ fn tag_in(line: &[u8]) -> Tag
     requires { ⌜ length (now line) ≡ lineLength ⌝ }
     ensures answer { λ r. ⌜ tagMeaning r ≡ within (λ t. ltb t tagEnd) (tagOf (now (line .entry))) ⌝ }
 {
-    let leading = columns::eight_columns(
-        line[0],
-        line[1],
-        line[2],
-        line[3],
-        line[4],
-        line[5],
-        line[6],
-        line[7],
-    );
-    let Eight::Number(eight) = leading else {
+    let Eight::Number(eight) = columns::eight_columns(line) else {
         return Tag::Malformed;
     };
     let Field::Value(nine) = leading_column(eight as u64, line[8]) else {

@@ -1,85 +1,112 @@
 -- `columns::read_columns` meets its contract: no sum leaves 64 bits, since masked words are below their masks. Assumes nothing.
 use borrow.Author.Needs.{needs}
-use mathlib.Core.Path.{_≡_, sym, _∙_}
-use mathlib.Core.List.{List, [], _∷_}
-use Prim.Native.Nat.{ℕ, _+_, _<_}
+use mathlib.Core.Path.{_≡_}
+use Prim.Native.Nat.{ℕ, _+_, _*_}
 use native.Mathlib.Omega.{arith}
 use lib.Bits.{bitAnd, and-le-r}
-use Rattle.digits.specs.Digits.{packed}
-use Rattle.columns.proofs.Bytes.{Below, eight-bytes}
-use Rattle.columns.proofs.Numbers.{pairsOf, pairs-below, fours-below, no-digits, other-spaces, columns-read, first-number, last-number}
+use Rattle.columns.proofs.Numbers.{pairsOf, pairs-below, fours-below, no-digits, other-spaces, columns-read}
 use Rattle.columns.proofs.read_columns.Statement.{statement}
 use Rattle.columns.proofs.read_columns.Tie as tie
 
-word-of-requires : tie.Need-word-of-requires
-word-of-requires c κs = search needs
+-- The word is made of its halves.
+word-packs : {first last m n : ℕ} → first ≡ m → last ≡ n → first + last * 4294967296 ≡ m + n * 4294967296
+word-packs e f = rw (e, f)
+
+four-bytes-requires : tie.Need-four-bytes-requires
+four-bytes-requires c κs = search needs
+
+four-bytes-requires-2 : tie.Need-four-bytes-requires-2
+four-bytes-requires-2 c κs = search needs
+
+mul-word : tie.Need-mul-word
+mul-word c = search needs
+
+add-word : tie.Need-add-word
+add-word c = search needs
 
 add-if1 : tie.Need-add-if1
-add-if1 c = omega (arith, and-le-r (c .word-of .result) 1085102592571150095)
+add-if1 c =
+    let read = c in
+    omega (arith, and-le-r (read .before .four-bytes .result + read .four-bytes2 .result * 4294967296) 1085102592571150095)
 
 returns : tie.Need-returns
-unfolding packed
 returns c =
     let read = c .before in
-    let a = read .before .args in
-    rw (no-digits (a .carry) _ (a .a) (a .b) (a .c) (a .d) (a .e) (a .f) (a .g) (a .h) (eight-bytes (omega arith) (omega arith) (omega arith) (omega arith) (omega arith) (omega arith) (omega arith) (omega arith)) (read .word-of .ensures) (c .if1 .taken))
+    let known = read .before .before in
+    let start = known .before in
+    let a = start .args in
+    let packs = word-packs (read .before .four-bytes .ensures .0) (read .four-bytes2 .ensures .0) in
+    no-digits (a .line .now) (a .second) (a .carry) _ (start .pre .0 .0) (start .pre .0 .1) (λ k. omega (arith, known .shared-slice-known .given k)) packs (c .if1 .taken)
 
 add-spaces : tie.Need-add-spaces
-add-spaces c = omega (arith, and-le-r (c .before .word-of .result) 1085102592571150095)
+add-spaces c =
+    let read = c .before in
+    omega (arith, and-le-r (read .before .four-bytes .result + read .four-bytes2 .result * 4294967296) 1085102592571150095)
 
 add-if2 : tie.Need-add-if2
-add-if2 c = omega (arith, and-le-r (c .before .word-of .result) 1085102592571150095)
+add-if2 c =
+    let read = c .before in
+    omega (arith, and-le-r (read .before .four-bytes .result + read .four-bytes2 .result * 4294967296) 1085102592571150095)
 
 sub-if2 : tie.Need-sub-if2
 sub-if2 c =
-    let word = c .before .word-of .result in
-    omega (arith, and-le-r (bitAnd word 1085102592571150095 + c .before .before .args .carry) 1157442765409226768)
+    let read = c .before in
+    omega (arith, and-le-r (bitAnd (read .before .four-bytes .result + read .four-bytes2 .result * 4294967296) 1085102592571150095 + read .before .before .before .args .carry) 1157442765409226768)
 
 returns-2 : tie.Need-returns-2
-unfolding packed
 returns-2 c =
-    let digits = c .before in
-    let read = digits .before in
-    let a = read .before .args in
-    rw (other-spaces (a .carry) _ (a .a) (a .b) (a .c) (a .d) (a .e) (a .f) (a .g) (a .h) (eight-bytes (omega arith) (omega arith) (omega arith) (omega arith) (omega arith) (omega arith) (omega arith) (omega arith)) (read .word-of .ensures) (digits .if1 .left) (c .if2 .taken))
+    let read = c .before .before in
+    let known = read .before .before in
+    let start = known .before in
+    let a = start .args in
+    let packs = word-packs (read .before .four-bytes .ensures .0) (read .four-bytes2 .ensures .0) in
+    other-spaces (a .line .now) (a .second) (a .carry) _ (start .pre .0 .0) (start .pre .0 .1) (λ k. omega (arith, known .shared-slice-known .given k)) packs (c .before .if1 .left) (c .if2 .taken)
 
 mul-pairs : tie.Need-mul-pairs
-mul-pairs c = omega (arith, and-le-r (c .before .before .word-of .result) 1085102592571150095)
+mul-pairs c =
+    let read = c .before .before in
+    omega (arith, and-le-r (read .before .four-bytes .result + read .four-bytes2 .result * 4294967296) 1085102592571150095)
 
 add-pairs : tie.Need-add-pairs
-add-pairs c = omega (arith, and-le-r (c .before .before .word-of .result) 1085102592571150095)
+add-pairs c =
+    let read = c .before .before in
+    omega (arith, and-le-r (read .before .four-bytes .result + read .four-bytes2 .result * 4294967296) 1085102592571150095)
 
 mul-fours : tie.Need-mul-fours
-mul-fours c = omega (arith, pairs-below (bitAnd (c .before .before .word-of .result) 1085102592571150095))
+mul-fours c =
+    let read = c .before .before in
+    omega (arith, pairs-below (bitAnd (read .before .four-bytes .result + read .four-bytes2 .result * 4294967296) 1085102592571150095))
 
 add-fours : tie.Need-add-fours
-add-fours c = omega (arith, pairs-below (bitAnd (c .before .before .word-of .result) 1085102592571150095))
+add-fours c =
+    let read = c .before .before in
+    omega (arith, pairs-below (bitAnd (read .before .four-bytes .result + read .four-bytes2 .result * 4294967296) 1085102592571150095))
 
-cast-t19 : tie.Need-cast-t19
-cast-t19 c = search needs
+cast-t13 : tie.Need-cast-t13
+cast-t13 c = search needs
 
-cast-t20 : tie.Need-cast-t20
-cast-t20 c = omega (arith, fours-below (pairsOf (bitAnd (c .before .before .word-of .result) 1085102592571150095)))
+cast-t14 : tie.Need-cast-t14
+cast-t14 c =
+    let read = c .before .before in
+    omega (arith, fours-below (pairsOf (bitAnd (read .before .four-bytes .result + read .four-bytes2 .result * 4294967296) 1085102592571150095)))
 
 returns-3 : tie.Need-returns-3
-unfolding packed
 returns-3 c =
-    let digits = c .before in
-    let read = digits .before in
-    let a = read .before .args in
-    let small : Below 256 (a .a ∷ a .b ∷ a .c ∷ a .d ∷ a .e ∷ a .f ∷ a .g ∷ a .h ∷ []) =
-    eight-bytes (omega arith) (omega arith) (omega arith) (omega arith) (omega arith) (omega arith) (omega arith) (omega arith) in
-    rw (
-      columns-read (a .carry) _ (a .a) (a .b) (a .c) (a .d) (a .e) (a .f) (a .g) (a .h) small (read .word-of .ensures) (digits .if1 .left) (c .if2 .left),
-      first-number (a .carry) _ (a .a) (a .b) (a .c) (a .d) (a .e) (a .f) (a .g) (a .h) small (read .word-of .ensures) (digits .if1 .left),
-      last-number (a .carry) _ (a .a) (a .b) (a .c) (a .d) (a .e) (a .f) (a .g) (a .h) small (read .word-of .ensures) (digits .if1 .left),
-    )
+    let read = c .before .before in
+    let known = read .before .before in
+    let start = known .before in
+    let a = start .args in
+    let packs = word-packs (read .before .four-bytes .ensures .0) (read .four-bytes2 .ensures .0) in
+    columns-read (a .line .now) (a .second) (a .carry) _ (start .pre .0 .0) (start .pre .0 .1) (λ k. omega (arith, known .shared-slice-known .given k)) packs (c .before .if1 .left) (c .if2 .left)
 
 pub read-columns-spec : {M : Type 1} → statement M
 read-columns-spec =
     tie.close
     (tie.spec
-    word-of-requires
+    four-bytes-requires
+    four-bytes-requires-2
+    mul-word
+    add-word
     add-if1
     returns
     add-spaces
@@ -90,6 +117,6 @@ read-columns-spec =
     add-pairs
     mul-fours
     add-fours
-    cast-t19
-    cast-t20
+    cast-t13
+    cast-t14
     returns-3)

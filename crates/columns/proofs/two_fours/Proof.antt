@@ -2,8 +2,7 @@
 use borrow.Author.Needs.{needs}
 use mathlib.Core.Path.{_∙_}
 use native.Mathlib.Omega.{arith}
-use Rattle.columns.proofs.Bytes.{eight-bytes}
-use Rattle.columns.proofs.Spaces.{fours-leading}
+use Rattle.columns.proofs.Spaces.{line-fours}
 use Rattle.columns.proofs.two_fours.Statement.{statement}
 use Rattle.columns.proofs.two_fours.Tie as tie
 
@@ -12,9 +11,9 @@ read-columns-requires c κs = search needs
 
 returns : tie.Need-returns
 returns c =
-    let a = c .before .args in
-    c .read-columns .ensures ∙ fours-leading (a .a) (a .b) (a .c) (a .d) (a .e) (a .f) (a .g) (a .h)
-    (eight-bytes (omega arith) (omega arith) (omega arith) (omega arith) (omega arith) (omega arith) (omega arith) (omega arith))
+    let known = c .before in
+    let start = known .before in
+    c .read-columns .ensures ∙ line-fours (start .args .line .now) (λ k. omega (arith, known .shared-slice-known .given k)) (start .pre)
 
 pub two-fours-spec : {M : Type 1} → statement M
 two-fours-spec = tie.close (tie.spec read-columns-requires returns)
