@@ -85,7 +85,8 @@ digits-only (byte ∷ bytes) e =
     let clear = six-more (byte % 16) bytes (omega arith) in
     (omega arith, digits-only bytes (omega arith))
 
-pub digits-clear : (bytes : List ℕ) → Below 10 (low bytes) → bitAnd (packed (low bytes) + each (length bytes) 6) (each (length bytes) 16) ≡ 0
+pub digits-clear : (bytes : List ℕ) → Below 10 (low bytes)
+    → bitAnd (packed (low bytes) + each (length bytes) 6) (each (length bytes) 16) ≡ 0
 unfolding packed each Below low
 digits-clear [] h = refl
 digits-clear (byte ∷ bytes) h =

@@ -29,7 +29,8 @@ four : (p q x mask : ℕ) → p < 100 → q < 100 → x % 65536 < 100
     ≡ 100 * p + q + 4294967296 * bitAnd (x * 100 + x / 65536) mask
 four p q x mask h i j =
     let low = 100 * p + q + 65536 * (100 * q + x % 65536) in
-    let made : (p + 65536 * (q + 65536 * x)) * 100 + (p + 65536 * (q + 65536 * x)) / 65536 ≡ (x * 100 + x / 65536) * 4294967296 + low = omega arith in
+    let made : (p + 65536 * (q + 65536 * x)) * 100 + (p + 65536 * (q + 65536 * x)) / 65536
+    ≡ (x * 100 + x / 65536) * 4294967296 + low = omega arith in
     let kept : low % 65536 ≡ 100 * p + q = omega arith in
     rw made (and-block 32 (x * 100 + x / 65536) mask low 65535 (omega arith) (lit< tt) ∙ rw (and-mask low 16, kept) (omega arith))
 
@@ -50,7 +51,8 @@ pairs-below digits = and-le-r (digits * 10 + digits / 256) 71777214294589695
 pub fours-below : (pairs : ℕ) → foursOf pairs ≤ 281470681808895
 fours-below pairs = and-le-r (pairs * 100 + pairs / 65536) 281470681808895
 
-module _ (a b c d e f g h : ℕ) (ha : a < 10) (hb : b < 10) (hc : c < 10) (hd : d < 10) (he : e < 10) (hf : f < 10) (hg : g < 10) (hh : h < 10) where
+module _ (a b c d e f g h : ℕ)
+    (ha : a < 10) (hb : b < 10) (hc : c < 10) (hd : d < 10) (he : e < 10) (hf : f < 10) (hg : g < 10) (hh : h < 10) where
   -- The masks have 255 for each pair: less the lowest 16 bits 1095233372415, then 16711935, 255 and 0.
   pairs-made : pairsOf (packed (a ∷ b ∷ c ∷ d ∷ e ∷ f ∷ g ∷ h ∷ []))
       ≡ 10 * a + b + 65536 * (10 * c + d + 65536 * (10 * e + f + 65536 * (10 * g + h + 65536 * 0)))
@@ -73,7 +75,8 @@ module _ (a b c d e f g h : ℕ) (ha : a < 10) (hb : b < 10) (hc : c < 10) (hd :
       ∙ rw (four (10 * e + f) (10 * g + h) 0 0 (omega arith) (omega arith) (omega arith)) (omega (arith, and-zero-r 0)))
 
 -- What the tests of the code say of eight bytes of a line in its word, and the numbers that it makes of them.
-module _ (line : List ℕ) (second carry word : ℕ) (near : 4 ≤ second) (room : second + 4 ≤ length line) (small : (k : ℕ) → getD line k 0 < 256) (packs : word ≡ packed (take 4 line) + packed (take 4 (drop second line)) * 4294967296) where
+module _ (line : List ℕ) (second carry word : ℕ) (near : 4 ≤ second) (room : second + 4 ≤ length line)
+    (small : (k : ℕ) → getD line k 0 < 256) (packs : word ≡ packed (take 4 line) + packed (take 4 (drop second line)) * 4294967296) where
   abbrev bytes : List ℕ
   bytes = fourAt line 0 ++ fourAt line second
 
@@ -113,7 +116,8 @@ module _ (line : List ℕ) (second carry word : ℕ) (near : 4 ≤ second) (room
         let z = rw digits-are at clear in
         rw (answer-is, z, ne-eqb (packed bytes) expected (λ s. other (word-is ∙ rw digits-are s)))
 
-    numbers : (foursOf (pairsOf digits) ≡ numberIn (fourAt line 0) + 4294967296 * numberIn (fourAt line second)) × (numberIn (fourAt line 0) < 10000)
+    numbers : (foursOf (pairsOf digits) ≡ numberIn (fourAt line 0) + 4294967296 * numberIn (fourAt line second))
+        × (numberIn (fourAt line 0) < 10000)
     unfolding each Below low valueBehind numberIn
     numbers =
         let (i, (j, (k, (l, (m, (n, (o, (p, end)))))))) = digits-only bytes (rw digits-are at clear) in

@@ -11,9 +11,10 @@ use lib.ListN.{length, getD, take, drop}
 use lib.Seq.{take-add}
 use borrow.Author.Tests.{eq-eqb, ne-eqb, eqb-true, eqb-false, lt-ltb, ltb-true}
 use Rattle.digits.specs.Digits.{packed}
-use Rattle.columns.specs.Columns.{columnOf, leadingFrom, both}
+use Rattle.columns.specs.Columns.{columnOf, leadingFrom, both, foursIn}
 use Rattle.columns.specs.Word.{each, low, valueBehind, numberIn, written, columnsRead}
-use Rattle.columns.proofs.Bytes.{Below, fourAt, four-bytes-at, packed-same, and-byte, bit-sixteen, low-length, digits-only, digits-clear}
+use Rattle.columns.proofs.Bytes.{Below, fourAt, four-bytes-at, packed-same, and-byte, bit-sixteen}
+use Rattle.columns.proofs.Bytes.{low-length, digits-only, digits-clear}
 
 -- The leading columns with these digits, behind those of v.
 unfoldable columnsFrom : ℕ → List ℕ → List ℕ
@@ -48,7 +49,8 @@ columns-bytes v [] h = tt
 columns-bytes v (d ∷ ds) h = (column-byte (v * 10 + d) d (h .0), columns-bytes (v * 10 + d) ds (h .1))
 
 -- Bytes read as leading columns exactly where they are those of their digits.
-leading-columns : (v : ℕ) (bytes : List ℕ) → Below 10 (low bytes) → bytes ≡ columnsFrom v (low bytes) → leadingFrom v bytes ≡ some (valueBehind v (low bytes))
+leading-columns : (v : ℕ) (bytes : List ℕ) → Below 10 (low bytes) → bytes ≡ columnsFrom v (low bytes)
+    → leadingFrom v bytes ≡ some (valueBehind v (low bytes))
 unfolding leadingFrom columnsFrom low valueBehind Below
 leading-columns v [] h e = refl
 leading-columns v (byte ∷ bytes) h e =
@@ -60,7 +62,9 @@ leading-columns v (byte ∷ bytes) h e =
 leading-only : (v n : ℕ) (bytes : List ℕ) → leadingFrom v bytes ≡ some n → Below 10 (low bytes) × (bytes ≡ columnsFrom v (low bytes))
 unfolding leadingFrom columnsFrom low Below
 leading-only v n [] e = (tt, refl)
-leading-only v n (byte ∷ bytes) e = go (leading-only (v * 10 + byte % 16) n bytes) (ltb (byte % 16) 10) (eqb byte (columnOf (v * 10 + byte % 16) (byte % 16))) refl refl
+leading-only v n (byte ∷ bytes) e =
+    go (leading-only (v * 10 + byte % 16) n bytes) (ltb (byte % 16) 10)
+    (eqb byte (columnOf (v * 10 + byte % 16) (byte % 16))) refl refl
   where
     go : (leadingFrom (v * 10 + byte % 16) bytes ≡ some n → Below 10 (low bytes) × (bytes ≡ columnsFrom (v * 10 + byte % 16) (low bytes)))
         → (p q : Bool) → ltb (byte % 16) 10 ≡ p → eqb byte (columnOf (v * 10 + byte % 16) (byte % 16)) ≡ q
@@ -116,7 +120,8 @@ columns-word zero (d ∷ []) l h =
     go false e = let n : d ≡ 0 → ⊥ = eqb-false d 0 e in rw (column-digit (0 * 10 + d) d (omega (arith, n))) (omega (arith, n, h .0))
 columns-word (suc k) (d ∷ ds) l h = go (columns-word k ds (omega arith) (h .1)) (eqb d 0) refl
   where
-    go : packed (columnsFrom 0 ds) + bitAnd (packed ds + carry k) (each (suc k) 16) ≡ packed ds + each (suc k) 48 → (b : Bool) → eqb d 0 ≡ b
+    go : packed (columnsFrom 0 ds) + bitAnd (packed ds + carry k) (each (suc k) 16) ≡ packed ds + each (suc k) 48
+        → (b : Bool) → eqb d 0 ≡ b
         → columnOf (0 * 10 + d) d + 256 * packed (columnsFrom (0 * 10 + d) ds) + bitAnd (d + 256 * packed ds + (255 + 256 * carry k)) (16 + 256 * each (suc k) 16)
         ≡ d + 256 * packed ds + (48 + 256 * each (suc k) 48)
     go ih true e =
@@ -177,7 +182,8 @@ module _ (k : ℕ) (bytes : List ℕ) (long : length bytes ≡ suc k) (small : B
           rw (eq-eqb sixes 0 (digits-clear bytes digits), eq-eqb (packed bytes) expected packs) (sym (leading-columns 0 bytes digits same))
 
 -- Two numbers in one word: each half is tested by itself.
-packed-halves : (a b c d e f g h : ℕ) → packed (a ∷ b ∷ c ∷ d ∷ e ∷ f ∷ g ∷ h ∷ []) ≡ packed (a ∷ b ∷ c ∷ d ∷ []) + 4294967296 * packed (e ∷ f ∷ g ∷ h ∷ [])
+packed-halves : (a b c d e f g h : ℕ) → packed (a ∷ b ∷ c ∷ d ∷ e ∷ f ∷ g ∷ h ∷ [])
+    ≡ packed (a ∷ b ∷ c ∷ d ∷ []) + 4294967296 * packed (e ∷ f ∷ g ∷ h ∷ [])
 unfolding packed
 packed-halves a b c d e f g h = omega arith
 
@@ -202,7 +208,8 @@ eqb-halves x y u v h i = go (eqb x u) (eqb y v) refl refl
         let n : x ≡ u → ⊥ = eqb-false x u f in
         ne-eqb (x + 4294967296 * y) (u + 4294967296 * v) (λ e. n (omega arith))
 
-and-halves : (x y m n : ℕ) → x < 4294967296 → m < 4294967296 → bitAnd (x + 4294967296 * y) (m + 4294967296 * n) ≡ bitAnd x m + 4294967296 * bitAnd y n
+and-halves : (x y m n : ℕ) → x < 4294967296 → m < 4294967296
+    → bitAnd (x + 4294967296 * y) (m + 4294967296 * n) ≡ bitAnd x m + 4294967296 * bitAnd y n
 and-halves x y m n h i =
     let p : x + 4294967296 * y ≡ y * 4294967296 + x = omega arith in
     let q : m + 4294967296 * n ≡ n * 4294967296 + m = omega arith in
@@ -214,7 +221,8 @@ and-swap true true r s = refl
 and-swap true false true s = refl
 and-swap true false false s = refl
 
-cond-map : (p : Bool) (m n : ℕ) → Option·map (λ (x : ℕ × ℕ). x .0 * 10000 + x .1) (cond p (some (m, n)) none) ≡ cond p (some (m * 10000 + n)) none
+cond-map : (p : Bool) (m n : ℕ)
+    → Option·map (λ (x : ℕ × ℕ). x .0 * 10000 + x .1) (cond p (some (m, n)) none) ≡ cond p (some (m * 10000 + n)) none
 cond-map true m n = refl
 cond-map false m n = refl
 
@@ -252,7 +260,9 @@ module _ (a b c d e f g h : ℕ) (small : Below 256 (a ∷ b ∷ c ∷ d ∷ e �
       let t = bitAnd (n + 2147483647) 269488144 in
       let sb = and-le-r (m + 2147483647) 269488144 in
       let tb = and-le-r (n + 2147483647) 269488144 in
-      let columns : m + 4294967296 * n + 3472328296227680304 - (s + 4294967296 * t) ≡ m + 808464432 - s + 4294967296 * (n + 808464432 - t) = omega arith in
+      let xb = and-le-r (m + 101058054) 269488144 in
+      let columns : m + 4294967296 * n + 3472328296227680304 - (s + 4294967296 * t)
+      ≡ m + 808464432 - s + 4294967296 * (n + 808464432 - t) = omega arith in
       rw (
         packed-halves a b c d e f g h,
         packed-halves (a % 16) (b % 16) (c % 16) (d % 16) (e % 16) (f % 16) (g % 16) (h % 16),
@@ -261,7 +271,7 @@ module _ (a b c d e f g h : ℕ) (small : Below 256 (a ∷ b ∷ c ∷ d ∷ e �
         and-halves (m + 101058054) (n + 101058054) 269488144 269488144 (omega arith) (lit< tt),
         and-halves (m + 2147483647) (n + 2147483647) 269488144 269488144 (omega arith) (lit< tt),
         columns,
-        eqb-halves (bitAnd (m + 101058054) 269488144) (bitAnd (n + 101058054) 269488144) 0 0 (omega (arith, and-le-r (m + 101058054) 269488144)) (lit< tt),
+        eqb-halves (bitAnd (m + 101058054) 269488144) (bitAnd (n + 101058054) 269488144) 0 0 (omega arith) (lit< tt),
         eqb-halves (packed first) (packed last) (m + 808464432 - s) (n + 808464432 - t) (omega arith) (omega arith),
       )
       (and-swap (eqb (bitAnd (m + 101058054) 269488144) 0) (eqb (bitAnd (n + 101058054) 269488144) 0)
@@ -287,7 +297,7 @@ module _ (line : List ℕ) (small : (k : ℕ) → getD line k 0 < 256) where
   unfolding Below
   small-at second = (small _, (small _, (small _, (small _, (small _, (small _, (small _, (small _, tt))))))))
 
-  pub line-fours : 9 ≤ length line → columnsRead 9223372034707292159 (take 4 line) (take 4 (drop 5 line)) ≡ both (leadingFrom 0 (take 4 line)) (leadingFrom 0 (take 4 (drop 5 line)))
+  pub line-fours : 9 ≤ length line → columnsRead 9223372034707292159 (take 4 line) (take 4 (drop 5 line)) ≡ foursIn line
   line-fours room =
       rw (four-bytes-at line 0 (omega arith), four-bytes-at line 5 (omega arith)) (fours-leading _ _ _ _ _ _ _ _ (small-at 5))
 

@@ -4,6 +4,7 @@ use mathlib.Core.Bool.{cond, _&&_}
 use mathlib.Core.List.{List, [], _∷_}
 use mathlib.Core.Option.{Option, none, some}
 use lib.Dec.{eqb, ltb}
+use lib.ListN.{take, drop}
 
 -- The byte of a leading column with digit d, where the number up to it is n: a space as long as that is 0.
 unfoldable pub columnOf : ℕ → ℕ → ℕ
@@ -23,3 +24,7 @@ unfoldable pub both : Option ℕ → Option ℕ → Option (ℕ × ℕ)
 both none second = none
 both (some m) none = none
 both (some m) (some n) = some (m, n)
+
+-- The numbers of a line of two fields: of its first four columns, and of four from the sixth on.
+abbrev pub foursIn : List ℕ → Option (ℕ × ℕ)
+foursIn line = both (leadingFrom 0 (take 4 line)) (leadingFrom 0 (take 4 (drop 5 line)))

@@ -15,7 +15,8 @@ leadingBehind (some v) bytes = leadingFrom v bytes
 pub leading-append : (v : ℕ) (xs ys : List ℕ) → leadingFrom v (xs ++ ys) ≡ leadingBehind (leadingFrom v xs) ys
 unfolding leadingFrom leadingBehind
 leading-append v [] ys = refl
-leading-append v (x ∷ xs) ys = go (ltb (x % 16) 10 && eqb x (columnOf (v * 10 + x % 16) (x % 16))) _ (leading-append (v * 10 + x % 16) xs ys)
+leading-append v (x ∷ xs) ys =
+    go (ltb (x % 16) 10 && eqb x (columnOf (v * 10 + x % 16) (x % 16))) _ (leading-append (v * 10 + x % 16) xs ys)
   where
     go : (b : Bool) {o : Option ℕ} (p : Option ℕ) → o ≡ leadingBehind p ys → cond b o none ≡ leadingBehind (cond b p none) ys
     go true p e = e

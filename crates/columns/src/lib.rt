@@ -3,7 +3,7 @@ ghost use mathlib.Core.Path.{_≡_};
 ghost use Prim.Native.Nat.{_+_, _*_, _≤_, _<_};
 ghost use lib.ListN.{length, take, drop};
 ghost use Rattle.digits.specs.Digits.{packed};
-ghost use Rattle.columns.specs.Columns.{leadingFrom, both};
+ghost use Rattle.columns.specs.Columns.{leadingFrom, foursIn};
 ghost use Rattle.columns.specs.Word.{columnsRead};
 ghost use Rattle.columns.specs.Answer.{foursMeaning, eightMeaning};
 
@@ -22,7 +22,7 @@ pub enum Eight {
 // Reads the leading columns of a line's two fields: its first four columns, and four from the sixth on.
 pub fn two_fours(line: &[u8]) -> Fours
     requires { ⌜ 9 ≤ length (now line) ⌝ }
-    ensures answer { λ r. ⌜ foursMeaning r ≡ both (leadingFrom 0 (take 4 (now (line .entry)))) (leadingFrom 0 (take 4 (drop 5 (now (line .entry))))) ⌝ }
+    ensures answer { λ r. ⌜ foursMeaning r ≡ foursIn (now (line .entry)) ⌝ }
 {
     read_columns(line, 5, 0x7fffffff7fffffff)
 }

@@ -61,13 +61,15 @@ module _ (image : List ℕ) where
     slots-empty e = rw (eq-eqb start end e)
 
     -- In another, the slots of both choices.
-    pub slots-filled : (start ≡ end → ⊥) → slotsOf (viewOf image) start end seed t ≡ slotsFrom (viewOf image) start (end - start) seed t 0
+    pub slots-filled : (start ≡ end → ⊥)
+        → slotsOf (viewOf image) start end seed t ≡ slotsFrom (viewOf image) start (end - start) seed t 0
     unfolding slotsOf slotsFrom
     slots-filled filled = rw (ne-eqb start end filled)
 
   -- One choice, and what is left then.
   pub slots-turn : (start n seed t choice : ℕ) → choice < 2
-      → slotsFrom (viewOf image) start n seed t choice ≡ atSlot (viewOf image) t (start + placeOf n seed choice t) (slotsFrom (viewOf image) start n seed t (choice + 1))
+      → slotsFrom (viewOf image) start n seed t choice
+      ≡ atSlot (viewOf image) t (start + placeOf n seed choice t) (slotsFrom (viewOf image) start n seed t (choice + 1))
   unfolding slotsFrom
   slots-turn start n seed t zero lt = refl
   slots-turn start n seed t (suc zero) lt = refl

@@ -25,7 +25,8 @@ unfolding leadingFrom
 leads-start s width long p = record { long = long; within = p; reads = refl }
 
 -- The field is its first columns and its last.
-whole : (s : List ℕ) (width j : ℕ) → length s ≡ width → width ≡ suc j → field width s ≡ field (suc (length (take j s))) (take j s ++ (getD s j 0 ∷ []))
+whole : (s : List ℕ) (width j : ℕ) → length s ≡ width → width ≡ suc j
+    → field width s ≡ field (suc (length (take j s))) (take j s ++ (getD s j 0 ∷ []))
 whole s width j long e =
     let k : j ≤ length s = omega arith in
     rw (length-take-le j s k, ← take-suc s j 0 (omega arith), take-all (suc j) s (omega arith), e)

@@ -41,7 +41,8 @@ module _ (v byte : ℕ) where
   unfolding leadingFrom
   column-other other h = rw (lt-ltb (byte % 16) 10 h, ne-eqb byte (columnOf (v * 10 + byte % 16) (byte % 16)) other)
 
-  pub column-same : byte ≡ columnOf (v * 10 + byte % 16) (byte % 16) → byte % 16 < 10 → some (v * 10 + byte % 16) ≡ leadingFrom v (byte ∷ [])
+  pub column-same : byte ≡ columnOf (v * 10 + byte % 16) (byte % 16) → byte % 16 < 10
+      → some (v * 10 + byte % 16) ≡ leadingFrom v (byte ∷ [])
   unfolding leadingFrom
   column-same same h = rw (lt-ltb (byte % 16) 10 h, eq-eqb byte (columnOf (v * 10 + byte % 16) (byte % 16)) same)
 
@@ -71,18 +72,21 @@ leading-behind v k [] {n} h e =
     let same : v ≡ n = Option·some-injective v n e in
     (append-nil (leading k v) ∙ rw (add-zero k, same), rw (add-zero k, ← same) h)
 leading-behind v k (byte ∷ bytes) {n} h e =
-    go (leading-behind (v * 10 + byte % 16) (suc k) bytes) (ltb (byte % 16) 10) (eqb byte (columnOf (v * 10 + byte % 16) (byte % 16))) refl refl
+    go (leading-behind (v * 10 + byte % 16) (suc k) bytes) (ltb (byte % 16) 10)
+    (eqb byte (columnOf (v * 10 + byte % 16) (byte % 16))) refl refl
   where
     m : ℕ
     m = v * 10 + byte % 16
 
-    go : (m < 10 ^ suc k → leadingFrom m bytes ≡ some n → (leading (suc k) m ++ bytes ≡ leading (suc k + length bytes) n) × (n < 10 ^ (suc k + length bytes)))
+    go : (m < 10 ^ suc k → leadingFrom m bytes ≡ some n
+        → (leading (suc k) m ++ bytes ≡ leading (suc k + length bytes) n) × (n < 10 ^ (suc k + length bytes)))
         → (p q : Bool) → ltb (byte % 16) 10 ≡ p → eqb byte (columnOf m (byte % 16)) ≡ q
         → (leading k v ++ (byte ∷ bytes) ≡ leading (k + length (byte ∷ bytes)) n) × (n < 10 ^ (k + length (byte ∷ bytes)))
     go ih true true f g =
         let digit = ltb-true (byte % 16) 10 f in
         let more : k + suc (length bytes) ≡ suc k + length bytes = omega arith in
-        let front : leading (suc k) m ≡ leading k v ++ (byte ∷ []) = leading-more k v (byte % 16) digit ∙ rw (← eqb-true byte (columnOf m (byte % 16)) g) in
+        let front : leading (suc k) m ≡ leading k v ++ (byte ∷ []) =
+        leading-more k v (byte % 16) digit ∙ rw (← eqb-true byte (columnOf m (byte % 16)) g) in
         let rest = ih (omega (arith, pow-suc 10 k)) (rw (f, g) at e) in
         rw more (sym (append-snoc (leading k v) byte bytes) ∙ rw (← front) (rest .0), rest .1)
     go ih true false f g = absurd (Option·none-ne-some n (rw (f, g) at e))
@@ -92,14 +96,16 @@ pub leading-below : (xs : List ℕ) {n : ℕ} → leadingFrom 0 xs ≡ some n �
 leading-below xs e = let z : 0 + length xs ≡ length xs = omega arith in rw z at (leading-behind 0 0 xs (omega arith) e .1)
 
 -- Behind leading columns that read as v, a digit ends the field.
-pub field-digit : (xs : List ℕ) (v d : ℕ) → leadingFrom 0 xs ≡ some v → d < 10 → field (suc (length xs)) (xs ++ ((48 + d) ∷ [])) ≡ some (v * 10 + d)
+pub field-digit : (xs : List ℕ) (v d : ℕ) → leadingFrom 0 xs ≡ some v → d < 10
+    → field (suc (length xs)) (xs ++ ((48 + d) ∷ [])) ≡ some (v * 10 + d)
 unfolding leading figure
 field-digit xs v d e h =
     let z : 0 + length xs ≡ length xs = omega arith in
     let (is, below) = rw z at (leading-behind 0 0 xs (omega arith) e) in
     let q : (v * 10 + d) / 10 ≡ v = omega arith in
     let r : (v * 10 + d) % 10 ≡ d = omega arith in
-    let bytes : xs ++ ((48 + d) ∷ []) ≡ figure (suc (length xs)) (v * 10 + d) = rw (q, r) (ap (λ (front : List ℕ). front ++ ((48 + d) ∷ [])) is) in
+    let bytes : xs ++ ((48 + d) ∷ []) ≡ figure (suc (length xs)) (v * 10 + d) =
+    rw (q, r) (ap (λ (front : List ℕ). front ++ ((48 + d) ∷ [])) is) in
     rw bytes (field-figure (suc (length xs)) (v * 10 + d) (omega arith) (omega (arith, pow-suc 10 (length xs), below)))
 
 -- Nothing else is a field: what reads as n has n's leading columns and its last digit.
@@ -113,7 +119,8 @@ field-ends xs byte n e =
     let k = length xs in
     let (is, below) = field-only (suc k) n (xs ++ (byte ∷ [])) e in
     let same = leading-length k (n / 10) in
-    let front : xs ≡ leading k (n / 10) = sym (take-at xs (byte ∷ []) k refl) ∙ rw is (take-at (leading k (n / 10)) ((48 + n % 10) ∷ []) k same) in
+    let front : xs ≡ leading k (n / 10) =
+    sym (take-at xs (byte ∷ []) k refl) ∙ rw is (take-at (leading k (n / 10)) ((48 + n % 10) ∷ []) k same) in
     record {
       leads = ap (leadingFrom 0) front ∙ leading-reads k (n / 10) (omega (arith, pow-suc 10 k));
       digit = sym (getD-at xs byte [] 0 k refl) ∙ rw is (getD-at (leading k (n / 10)) (48 + n % 10) [] 0 k same);
@@ -121,7 +128,8 @@ field-ends xs byte n e =
 
 -- The field of k columns and one, as a part of a text.
 pub part-field : (k at : ℕ) (bytes : List ℕ) → at + suc k ≤ length bytes
-    → field (suc k) (take (suc k) (drop at bytes)) ≡ field (suc (length (take k (drop at bytes)))) (take k (drop at bytes) ++ (getD bytes (at + k) 0 ∷ []))
+    → field (suc k) (take (suc k) (drop at bytes))
+    ≡ field (suc (length (take k (drop at bytes)))) (take k (drop at bytes) ++ (getD bytes (at + k) 0 ∷ []))
 part-field k at bytes h =
     let room : k < length (drop at bytes) = simp length-drop (omega arith) in
     rw (length-take-le k (drop at bytes) (omega arith), take-suc (drop at bytes) k 0 room, getD-drop at bytes k 0)

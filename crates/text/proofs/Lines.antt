@@ -98,7 +98,8 @@ module _ (line : List ℕ) (whole : length line ≡ 11) where
       go true e = fields (eqb-true feed 10 e) (field 5 (take 5 line)) (field 5 (take 5 (drop 5 line))) refl refl
 
   -- One field.
-  pub tag-some : {n y : ℕ} → leadingFrom 0 (take 9 line) ≡ some n → getD line 9 0 ≡ 48 + y → y < 10 → feed ≡ 10 → tagOf line ≡ some (n * 10 + y)
+  pub tag-some : {n y : ℕ} → leadingFrom 0 (take 9 line) ≡ some n → getD line 9 0 ≡ 48 + y → y < 10 → feed ≡ 10
+      → tagOf line ≡ some (n * 10 + y)
   unfolding tagOf
   tag-some {n} {y} leading b i end =
       rw (ended-feed end, part-field 9 0 line (omega arith), b, field-digit (take 9 line) n y leading i)

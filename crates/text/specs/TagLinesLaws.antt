@@ -44,7 +44,8 @@ unfolding tagsOn
 tagsOn-length zero k bytes = refl
 tagsOn-length (suc count) k bytes = ap suc (tagsOn-length count (suc k) bytes)
 
-tagsOn-more : (count k : ℕ) (bytes : List ℕ) → tagsOn (suc count) k bytes ≡ tagsOn count k bytes ++ (Option·getD (tagIn (lineAt (k + count) bytes)) 0 ∷ [])
+tagsOn-more : (count k : ℕ) (bytes : List ℕ)
+    → tagsOn (suc count) k bytes ≡ tagsOn count k bytes ++ (Option·getD (tagIn (lineAt (k + count) bytes)) 0 ∷ [])
 unfolding tagsOn
 tagsOn-more zero k bytes = rw add-zero
 tagsOn-more (suc count) k bytes =

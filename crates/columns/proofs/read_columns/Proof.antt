@@ -36,7 +36,8 @@ returns c =
     let start = known .before in
     let a = start .args in
     let packs = word-packs (read .before .four-bytes .ensures .0) (read .four-bytes2 .ensures .0) in
-    no-digits (a .line .now) (a .second) (a .carry) _ (start .pre .0 .0) (start .pre .0 .1) (λ k. omega (arith, known .shared-slice-known .given k)) packs (c .if1 .taken)
+    no-digits (a .line .now) (a .second) (a .carry) _ (start .pre .0 .0) (start .pre .0 .1)
+    (λ k. omega (arith, known .shared-slice-known .given k)) packs (c .if1 .taken)
 
 add-spaces : tie.Need-add-spaces
 add-spaces c =
@@ -51,7 +52,8 @@ add-if2 c =
 sub-if2 : tie.Need-sub-if2
 sub-if2 c =
     let read = c .before in
-    omega (arith, and-le-r (bitAnd (read .before .four-bytes .result + read .four-bytes2 .result * 4294967296) 1085102592571150095 + read .before .before .before .args .carry) 1157442765409226768)
+    let word = read .before .four-bytes .result + read .four-bytes2 .result * 4294967296 in
+    omega (arith, and-le-r (bitAnd word 1085102592571150095 + read .before .before .before .args .carry) 1157442765409226768)
 
 returns-2 : tie.Need-returns-2
 returns-2 c =
@@ -60,7 +62,8 @@ returns-2 c =
     let start = known .before in
     let a = start .args in
     let packs = word-packs (read .before .four-bytes .ensures .0) (read .four-bytes2 .ensures .0) in
-    other-spaces (a .line .now) (a .second) (a .carry) _ (start .pre .0 .0) (start .pre .0 .1) (λ k. omega (arith, known .shared-slice-known .given k)) packs (c .before .if1 .left) (c .if2 .taken)
+    other-spaces (a .line .now) (a .second) (a .carry) _ (start .pre .0 .0) (start .pre .0 .1)
+    (λ k. omega (arith, known .shared-slice-known .given k)) packs (c .before .if1 .left) (c .if2 .taken)
 
 mul-pairs : tie.Need-mul-pairs
 mul-pairs c =
@@ -88,7 +91,8 @@ cast-t13 c = search needs
 cast-t14 : tie.Need-cast-t14
 cast-t14 c =
     let read = c .before .before in
-    omega (arith, fours-below (pairsOf (bitAnd (read .before .four-bytes .result + read .four-bytes2 .result * 4294967296) 1085102592571150095)))
+    let word = read .before .four-bytes .result + read .four-bytes2 .result * 4294967296 in
+    omega (arith, fours-below (pairsOf (bitAnd word 1085102592571150095)))
 
 returns-3 : tie.Need-returns-3
 returns-3 c =
@@ -97,7 +101,8 @@ returns-3 c =
     let start = known .before in
     let a = start .args in
     let packs = word-packs (read .before .four-bytes .ensures .0) (read .four-bytes2 .ensures .0) in
-    columns-read (a .line .now) (a .second) (a .carry) _ (start .pre .0 .0) (start .pre .0 .1) (λ k. omega (arith, known .shared-slice-known .given k)) packs (c .before .if1 .left) (c .if2 .left)
+    columns-read (a .line .now) (a .second) (a .carry) _ (start .pre .0 .0) (start .pre .0 .1)
+    (λ k. omega (arith, known .shared-slice-known .given k)) packs (c .before .if1 .left) (c .if2 .left)
 
 pub read-columns-spec : {M : Type 1} → statement M
 read-columns-spec =

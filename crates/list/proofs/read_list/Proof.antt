@@ -125,7 +125,8 @@ returns-5 c =
     let long = read .before .before in
     let a = long .before .before .before .args in
     let header = line-reads pairMeaning listHeader (a .text .now) 0 0 (read .read-list-header .ensures) (told .groups .given .1) refl in
-    let well = malformed-lines (a .text .now) header _ (scanned .read-tag-lines .ensures .0) ∙ ap firstMeaning (none-found .enum-told2 .given .1) in
+    let none = ap firstMeaning (none-found .enum-told2 .given .1) in
+    let well = malformed-lines (a .text .now) header _ (scanned .read-tag-lines .ensures .0) ∙ none in
     refuses (a .text .now) (a .cells .now)
     (read-many (a .text .now) _ (long .if1 .left) (read .before .if2 .left) well (c .if3 .taken)) refl
 
@@ -139,7 +140,8 @@ returns-6 c =
     let long = read .before .before in
     let a = long .before .before .before .args in
     let header = line-reads pairMeaning listHeader (a .text .now) 0 0 (read .read-list-header .ensures) (told .groups .given .1) refl in
-    let well = malformed-lines (a .text .now) header _ (scanned .read-tag-lines .ensures .0) ∙ ap firstMeaning (none-found .enum-told2 .given .1) in
+    let none = ap firstMeaning (none-found .enum-told2 .given .1) in
+    let well = malformed-lines (a .text .now) header _ (scanned .read-tag-lines .ensures .0) ∙ none in
     refuses (a .text .now) (a .cells .now)
     (read-narrow (a .text .now) _ (long .if1 .left) (read .before .if2 .left) well (c .before .if3 .left) (c .if4 .taken)) refl
 

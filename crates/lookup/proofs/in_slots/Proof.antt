@@ -22,8 +22,10 @@ record Left (image : List ℕ) (start end seed t choice : ℕ) : Type 0 where
   few : choice ≤ 2
   left : slotsOf (viewOf image) start end seed t ≡ slotsFrom (viewOf image) start (end - start) seed t choice
 
-looked : (image : List ℕ) (start end seed t choice : ℕ) → Left image start end seed t choice → choice < 2 → {p : ℕ} → p ≡ placeOf (end - start) seed choice t
-    → slotsOf (viewOf image) start end seed t ≡ atSlot (viewOf image) t (start + p) (slotsFrom (viewOf image) start (end - start) seed t (choice + 1))
+looked : (image : List ℕ) (start end seed t choice : ℕ) → Left image start end seed t choice → choice < 2 → {p : ℕ}
+    → p ≡ placeOf (end - start) seed choice t
+    → slotsOf (viewOf image) start end seed t
+    ≡ atSlot (viewOf image) t (start + p) (slotsFrom (viewOf image) start (end - start) seed t (choice + 1))
 looked image start end seed t choice inv lt place = inv .left ∙ slots-turn image start (end - start) seed t choice lt ∙ rw place
 
 abbrev Inv-loop : tie.InvT-loop
@@ -88,7 +90,8 @@ returns-2 c =
     let start = loop .before .before .before in
     let a = start .args in
     let line = line-reads tagMeaning slotLine (a .image .now) _ _ (read .read-slot-line .ensures) (c .before .enum-told .given .1) refl in
-    let left = looked (a .image .now) (a .start) (a .end) (a .seed) (a .tag) (loop .loop .choice) (loop .loop .inv) (turn .loop-test .taken) (placed .place-of .ensures) in
+    let left =
+    looked (a .image .now) (a .start) (a .end) (a .seed) (a .tag) _ (loop .loop .inv) (turn .loop-test .taken) (placed .place-of .ensures) in
     c .malformed .ensures ∙ sym (left ∙ slot-malformed (a .image .now) (a .groups) (a .tag) _ (start .pre .0) _ line)
 
 returns-3 : tie.Need-returns-3 Inv-loop μ-loop
@@ -100,7 +103,8 @@ returns-3 c =
     let start = loop .before .before .before in
     let a = start .args in
     let line = line-reads tagMeaning slotLine (a .image .now) _ _ (read .read-slot-line .ensures) (c .before .before .held .given .1) refl in
-    let left = looked (a .image .now) (a .start) (a .end) (a .seed) (a .tag) (loop .loop .choice) (loop .loop .inv) (turn .loop-test .taken) (placed .place-of .ensures) in
+    let left =
+    looked (a .image .now) (a .start) (a .end) (a .seed) (a .tag) _ (loop .loop .inv) (turn .loop-test .taken) (placed .place-of .ensures) in
     sym (left ∙ slot-holds (a .image .now) (a .groups) (a .tag) _ (start .pre .0) _ (line ∙ ap some (c .if2 .taken)))
 
 add-choice : tie.Need-add-choice Inv-loop μ-loop
@@ -118,8 +122,12 @@ loop-again c =
     let start = loop .before .before .before in
     let a = start .args in
     let line = line-reads tagMeaning slotLine (a .image .now) _ _ (read .read-slot-line .ensures) (c .before .before .held .given .1) refl in
-    let left = looked (a .image .now) (a .start) (a .end) (a .seed) (a .tag) (loop .loop .choice) (loop .loop .inv) (turn .loop-test .taken) (placed .place-of .ensures) in
-    record { few = omega (arith, turn .loop-test .taken); left = left ∙ slot-other (a .image .now) (a .groups) (a .tag) _ (start .pre .0) _ line (c .if2 .left) }
+    let left =
+    looked (a .image .now) (a .start) (a .end) (a .seed) (a .tag) _ (loop .loop .inv) (turn .loop-test .taken) (placed .place-of .ensures) in
+    record {
+      few = omega (arith, turn .loop-test .taken);
+      left = left ∙ slot-other (a .image .now) (a .groups) (a .tag) _ (start .pre .0) _ line (c .if2 .left);
+    }
 
 returns-4 : tie.Need-returns-4 Inv-loop μ-loop
 returns-4 c =

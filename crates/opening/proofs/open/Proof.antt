@@ -59,7 +59,8 @@ returns-2 c =
     let read = told .before .before in
     let long = read .before in
     let image = long .before .before .args .image .now in
-    sym (open-counts image (long .if1 .taken) (sym (read .read-image-header .ensures) ∙ ap pairMeaning (told .count .given .1)) (c .if2 .taken))
+    let header = sym (read .read-image-header .ensures) ∙ ap pairMeaning (told .count .given .1) in
+    sym (open-counts image (long .if1 .taken) header (c .if2 .taken))
 
 returns-3 : tie.Need-returns-3
 unfolding lineAt
@@ -68,7 +69,8 @@ returns-3 c =
     let read = told .before .before in
     let long = read .before in
     let image = long .before .before .args .image .now in
-    sym (open-other-length image (long .if1 .taken) (sym (read .read-image-header .ensures) ∙ ap pairMeaning (told .count .given .1)) (c .if2 .left))
+    let header = sym (read .read-image-header .ensures) ∙ ap pairMeaning (told .count .given .1) in
+    sym (open-other-length image (long .if1 .taken) header (c .if2 .left))
 
 returns-4 : tie.Need-returns-4
 returns-4 c = sym (open-short (c .before .before .args .image .now) (c .if1 .left))

@@ -73,7 +73,8 @@ returns-3 : tie.Need-returns-3
 unfolding within
 returns-3 c =
     let start = c .before .before .before .before .before .before .before .before .before .before .before .before .before .before in
-    rw (tag-none (start .args .line .now) (start .pre) (λ n y leads i b end. no-end (c .before .end-digit .ensures) (omega arith) (c .if1 .taken) i b end))
+    rw (tag-none (start .args .line .now) (start .pre)
+    (λ n y leads i b end. no-end (c .before .end-digit .ensures) (omega arith) (c .if1 .taken) i b end))
 
 mul-t : tie.Need-mul-t
 mul-t c =
