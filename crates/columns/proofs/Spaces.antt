@@ -115,14 +115,16 @@ columns-word zero (d ∷ []) l h =
     let sum : d + 256 * 0 + 127 ≡ d + 127 + 256 * 0 = omega arith in
     rw (sum, and-byte (d + 127) 16 0 0 (omega (arith, h .0)) (lit< tt), bit-sixteen (d + 127)) (go (eqb d 0) refl)
   where
-    go : (b : Bool) → eqb d 0 ≡ b → columnOf (0 * 10 + d) d + 256 * 0 + ((d + 127) / 16 % 2 * 16 + 256 * bitAnd 0 0) ≡ d + 256 * 0 + (48 + 256 * 0)
+    go : (b : Bool) → eqb d 0 ≡ b
+        → columnOf (0 * 10 + d) d + 256 * 0 + ((d + 127) / 16 % 2 * 16 + 256 * bitAnd 0 0) ≡ d + 256 * 0 + (48 + 256 * 0)
     go true e = let z : d ≡ 0 = eqb-true d 0 e in rw z (rw column-space (omega arith))
     go false e = let n : d ≡ 0 → ⊥ = eqb-false d 0 e in rw (column-digit (0 * 10 + d) d (omega (arith, n))) (omega (arith, n, h .0))
 columns-word (suc k) (d ∷ ds) l h = go (columns-word k ds (omega arith) (h .1)) (eqb d 0) refl
   where
     go : packed (columnsFrom 0 ds) + bitAnd (packed ds + carry k) (each (suc k) 16) ≡ packed ds + each (suc k) 48
         → (b : Bool) → eqb d 0 ≡ b
-        → columnOf (0 * 10 + d) d + 256 * packed (columnsFrom (0 * 10 + d) ds) + bitAnd (d + 256 * packed ds + (255 + 256 * carry k)) (16 + 256 * each (suc k) 16)
+        → columnOf (0 * 10 + d) d + 256 * packed (columnsFrom (0 * 10 + d) ds)
+        + bitAnd (d + 256 * packed ds + (255 + 256 * carry k)) (16 + 256 * each (suc k) 16)
         ≡ d + 256 * packed ds + (48 + 256 * each (suc k) 48)
     go ih true e =
         let z : d ≡ 0 = eqb-true d 0 e in

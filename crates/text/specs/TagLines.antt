@@ -1,5 +1,5 @@
 -- Many lines of one tag each: the first that is none, and the cells that their tags are stored in. Assumes nothing.
-use Prim.Native.Nat.{ℕ, zero, suc, min}
+use Prim.Native.Nat.{ℕ, zero, suc, _-_, min}
 use mathlib.Core.Bool.{Bool, not, _&&_}
 use mathlib.Core.List.{List, [], _∷_, _++_}
 use mathlib.Core.Option.{Option, Option·getD}
@@ -21,6 +21,10 @@ noTagFrom from bytes k = leb from k && not (isSome (tagIn (lineAt k bytes)))
 unfoldable pub tagsOn : ℕ → ℕ → List ℕ → List ℕ
 tagsOn zero k bytes = []
 tagsOn (suc count) k bytes = Option·getD (tagIn (lineAt k bytes)) 0 ∷ tagsOn count (suc k) bytes
+
+-- How many lines, from line `from` on, stand before the first that is no tag's: all up to line `end` where there is none.
+abbrev pub passed : Option ℕ → ℕ → ℕ → ℕ
+passed found from end = Option·getD found end - from
 
 -- The cells after n lines, from line k on, were read: their tags, as many as there are cells for, and then what was there.
 unfoldable pub tagsStored : ℕ → ℕ → List ℕ → List ℕ → List ℕ

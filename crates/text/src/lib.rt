@@ -5,8 +5,7 @@ use refusal::First;
 ghost use mathlib.Core.Path.{_≡_};
 ghost use mathlib.Core.Bool.{cond};
 ghost use mathlib.Core.List.{[], _∷_, _++_};
-ghost use mathlib.Core.Option.{Option·getD};
-ghost use Prim.Native.Nat.{_+_, _-_, _*_, _%_, _≤_, _<_};
+ghost use Prim.Native.Nat.{_+_, _*_, _%_, _≤_, _<_};
 ghost use lib.Dec.{eqb, ltb};
 ghost use lib.ListN.{length, take, drop};
 ghost use Rattle.refusal.specs.Limits.{tagEnd, tagsMax};
@@ -15,8 +14,9 @@ ghost use Rattle.refusal.specs.Answer.{firstMeaning};
 ghost use Rattle.columns.specs.Columns.{columnOf, leadingFrom};
 ghost use Rattle.text.specs.Figure.{figure};
 ghost use Rattle.text.specs.Field.{field};
-ghost use Rattle.text.specs.Line.{lineLength, pairLine, tagLine, pairOf, tagOf, within, imageHeader, groupLine, slotLine, listHeader, listLine};
-ghost use Rattle.text.specs.TagLines.{noTagFrom, tagsStored};
+ghost use Rattle.text.specs.Line.{lineLength, pairLine, tagLine, pairOf, tagOf, within};
+ghost use Rattle.text.specs.Line.{imageHeader, groupLine, slotLine, listHeader, listLine};
+ghost use Rattle.text.specs.TagLines.{noTagFrom, passed, tagsStored};
 ghost use Rattle.text.specs.Answer.{fieldMeaning, pairMeaning, tagMeaning};
 
 // Every line is ten columns and a line feed.
@@ -225,7 +225,7 @@ pub fn read_tag_lines(bytes: &[u8], from: usize, end: usize, cells: &mut [u32; T
     requires { ⌜ (from ≤ end) × (lineLength * end ≤ length (now bytes)) ⌝ }
     requires { ⌜ length (now cells) ≡ tagsMax ⌝ }
     ensures answer { λ r. ⌜ firstMeaning r ≡ first (noTagFrom from (now (bytes .entry))) end ⌝ }
-    ensures cells { λ r. ⌜ now (cells .exit) ≡ tagsStored (Option·getD (firstMeaning r) end - from) from (now (bytes .entry)) (now (cells .entry)) ⌝ }
+    ensures cells { λ r. ⌜ now (cells .exit) ≡ tagsStored (passed (firstMeaning r) from end) from (now (bytes .entry)) (now (cells .entry)) ⌝ }
 {
     let mut k = from;
     while k < end {

@@ -91,7 +91,8 @@ returns-2 c =
     let a = start .args in
     let line = line-reads tagMeaning slotLine (a .image .now) _ _ (read .read-slot-line .ensures) (c .before .enum-told .given .1) refl in
     let left =
-    looked (a .image .now) (a .start) (a .end) (a .seed) (a .tag) _ (loop .loop .inv) (turn .loop-test .taken) (placed .place-of .ensures) in
+    looked (a .image .now) (a .start) (a .end) (a .seed) (a .tag) _ (loop .loop .inv) (turn .loop-test .taken)
+    (placed .place-of .ensures) in
     c .malformed .ensures ∙ sym (left ∙ slot-malformed (a .image .now) (a .groups) (a .tag) _ (start .pre .0) _ line)
 
 returns-3 : tie.Need-returns-3 Inv-loop μ-loop
@@ -102,9 +103,11 @@ returns-3 c =
     let loop = turn .before in
     let start = loop .before .before .before in
     let a = start .args in
-    let line = line-reads tagMeaning slotLine (a .image .now) _ _ (read .read-slot-line .ensures) (c .before .before .held .given .1) refl in
+    let told = c .before .before .held .given .1 in
+    let line = line-reads tagMeaning slotLine (a .image .now) _ _ (read .read-slot-line .ensures) told refl in
     let left =
-    looked (a .image .now) (a .start) (a .end) (a .seed) (a .tag) _ (loop .loop .inv) (turn .loop-test .taken) (placed .place-of .ensures) in
+    looked (a .image .now) (a .start) (a .end) (a .seed) (a .tag) _ (loop .loop .inv) (turn .loop-test .taken)
+    (placed .place-of .ensures) in
     sym (left ∙ slot-holds (a .image .now) (a .groups) (a .tag) _ (start .pre .0) _ (line ∙ ap some (c .if2 .taken)))
 
 add-choice : tie.Need-add-choice Inv-loop μ-loop
@@ -121,9 +124,11 @@ loop-again c =
     let loop = turn .before in
     let start = loop .before .before .before in
     let a = start .args in
-    let line = line-reads tagMeaning slotLine (a .image .now) _ _ (read .read-slot-line .ensures) (c .before .before .held .given .1) refl in
+    let told = c .before .before .held .given .1 in
+    let line = line-reads tagMeaning slotLine (a .image .now) _ _ (read .read-slot-line .ensures) told refl in
     let left =
-    looked (a .image .now) (a .start) (a .end) (a .seed) (a .tag) _ (loop .loop .inv) (turn .loop-test .taken) (placed .place-of .ensures) in
+    looked (a .image .now) (a .start) (a .end) (a .seed) (a .tag) _ (loop .loop .inv) (turn .loop-test .taken)
+    (placed .place-of .ensures) in
     record {
       few = omega (arith, turn .loop-test .taken);
       left = left ∙ slot-other (a .image .now) (a .groups) (a .tag) _ (start .pre .0) _ line (c .if2 .left);
