@@ -72,6 +72,7 @@ fn four_bytes(s: &[u8], at: usize) -> u64
     four(s[at], s[at + 1], s[at + 2], s[at + 3])
 }
 
+// Each byte counts 256 times the one before it.
 fn four(a: u8, b: u8, c: u8, d: u8) -> u64
     ensures answer { λ r. ⌜ r ≡ a + 256 * (b + 256 * (c + 256 * (d + 256 * 0))) ⌝ }
     ensures below { λ r. ⌜ r < 4294967296 ⌝ }
