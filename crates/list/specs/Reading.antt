@@ -1,8 +1,8 @@
 -- The operation "reading a list". Assumes nothing.
 use Prim.Native.Nat.{ℕ, zero, suc, _-_, _/_, _%_}
 use mathlib.Core.Bool.{Bool, not, _||_}
-use mathlib.Core.List.{List, [], _∷_, _++_, map}
-use mathlib.Core.Option.{Option, Option·getD}
+use mathlib.Core.List.{List, [], _∷_, _++_}
+use mathlib.Core.Option.{Option·getD}
 use lib.Dec.{eqb, ltb}
 use lib.ListN.{length, drop}
 use Rattle.refusal.specs.Limits.{tagsMax}

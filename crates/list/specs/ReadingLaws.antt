@@ -1,22 +1,23 @@
 -- Each way in which reading ends, the tags line by line, and that reading a list text gives back what it states. Assumes nothing.
 use mathlib.Core.Path.{_≡_, refl, sym, _∙_, ap}
 use mathlib.Core.Bool.{true, false}
-use mathlib.Core.List.{List, [], _∷_, _++_}
-use mathlib.Core.Option.{none, some, Option·getD}
-use Prim.Native.Nat.{ℕ, zero, suc, _+_, _%_, _≤_, _<_}
+use mathlib.Core.List.{List}
+use mathlib.Core.Option.{Option, none, some}
+use Prim.Native.Nat.{ℕ, zero, suc, _%_, _≤_, _<_}
 use native.Mathlib.Omega.{arith}
-use native.Mathlib.Nat.{add-zero}
 use lib.Dec.{ltb}
 use lib.ListN.{length}
-use borrow.Author.Tests.{lt-ltb, le-ltb, ltb-false, ne-eqb}
+use borrow.Author.Tests.{le-leb, lt-ltb, le-ltb, ltb-false, ne-eqb}
 use Rattle.refusal.specs.Limits.{tagsMax}
 use Rattle.refusal.specs.Outcome.{answered, refused, answeredBy}
 use Rattle.refusal.specs.OutcomeLaws.{answered-of-by}
 use Rattle.lists.specs.First.{first, metAt, isSome}
-use Rattle.lists.specs.FirstLaws.{first-zero}
+use Rattle.lists.specs.FirstLaws.{first-zero, first-cong}
 use Rattle.refusal.specs.Checks.{met, inOrder}
 use Rattle.refusal.specs.ChecksLaws.{inOrder-answered, false-of-met}
 use Rattle.text.specs.Line.{lineLength, lineAt, listHeader, listLine}
+use Rattle.text.specs.TagLines.{noTagFrom, tagsOn}
+use Rattle.text.specs.TagLinesLaws.{tag-list, line-before, tagsOn-length}
 use Rattle.list.specs.Reading.{malformed, lineCount, tagCount, tagsFrom, listedIn, readingChecks, readingOf}
 use Rattle.list.specs.Answer.{ListHead, headOf}
 
@@ -34,24 +35,25 @@ unfolding malformed isSome
 line-well text zero lt e = absurd (omega arith)
 line-well text (suc k) lt e = rw e
 
-pub line-malformed : (text : List ℕ) (k : ℕ) → 0 < k → listLine (lineAt k text) ≡ none → malformed text k ≡ true
-unfolding malformed isSome
-line-malformed text zero lt e = absurd (omega arith)
-line-malformed text (suc k) lt e = rw e
+-- Behind a header that is well formed, what is malformed is no tag's line.
+malformed-tag : (text : List ℕ) → malformed text 0 ≡ false → (k : ℕ) → noTagFrom 1 text k ≡ malformed text k
+unfolding noTagFrom malformed
+malformed-tag text well zero = line-before 1 text 0 (omega arith) ∙ sym well
+malformed-tag text well (suc k) = rw (le-leb 1 (suc k) (omega arith), tag-list (lineAt (suc k) text))
 
--- So many tags are so many, and one more is the next line's.
+pub malformed-lines : (text : List ℕ) {h : ℕ × ℕ} → listHeader (lineAt 0 text) ≡ some h → (limit : ℕ) {o : Option ℕ}
+    → o ≡ first (noTagFrom 1 text) limit → first (malformed text) limit ≡ o
+malformed-lines text header limit e =
+    sym (e ∙ first-cong (noTagFrom 1 text) (malformed text) limit (λ j lt. malformed-tag text (header-well text header) j))
+
+-- The tags of a list are those of its lines.
+pub tags-on : (count k : ℕ) (text : List ℕ) → tagsOn count k text ≡ tagsFrom count k text
+unfolding tagsOn tagsFrom
+tags-on zero k text = refl
+tags-on (suc count) k text = rw (tag-list (lineAt k text), tags-on count (suc k) text)
+
 pub tagsFrom-length : (count k : ℕ) (text : List ℕ) → length (tagsFrom count k text) ≡ count
-unfolding tagsFrom
-tagsFrom-length zero k text = refl
-tagsFrom-length (suc count) k text = ap suc (tagsFrom-length count (suc k) text)
-
-pub tagsFrom-more : (count k : ℕ) (text : List ℕ)
-    → tagsFrom (suc count) k text ≡ tagsFrom count k text ++ (Option·getD (listLine (lineAt (k + count) text)) 0 ∷ [])
-unfolding tagsFrom
-tagsFrom-more zero k text = rw add-zero
-tagsFrom-more (suc count) k text =
-    let e : k + suc count ≡ suc k + count = omega arith in
-    rw (e, tagsFrom-more count (suc k) text)
+tagsFrom-length count k text = rw (← tags-on count k text) (tagsOn-length count k text)
 
 -- The ways in which reading ends, in the order of its checks.
 module _ (text : List ℕ) (cells : ℕ) where

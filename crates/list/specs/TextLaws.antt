@@ -1,18 +1,17 @@
 -- Reading the text that states B, L and the tags gives them back. Assumes nothing.
-use mathlib.Core.Path.{_≡_, refl, sym, _∙_, ap}
+use mathlib.Core.Path.{_≡_, refl, _∙_}
 use mathlib.Core.Bool.{false}
-use mathlib.Core.List.{List, [], _∷_, map, flatten}
-use mathlib.Core.Option.{Option, some, Option·getD}
-use Prim.Native.Nat.{ℕ, zero, suc, _+_, _-_, _*_, _/_, _%_, _^_, _≤_, _<_}
+use mathlib.Core.List.{List, [], _∷_, map}
+use mathlib.Core.Option.{some}
+use Prim.Native.Nat.{ℕ, zero, suc, _+_, _-_, _*_, _^_, _≤_, _<_}
 use native.Mathlib.Omega.{arith}
 use lib.ListN.{length, getD, length-map}
-use lib.Seq.{ext-getD}
 use Rattle.refusal.specs.Limits.{tagEnd, tagsMax}
-use Rattle.refusal.specs.Outcome.{Outcome, answered}
+use Rattle.refusal.specs.Outcome.{answered}
 use Rattle.lists.specs.FirstLaws.{first-out}
 use Rattle.text.specs.Line.{lineLength, lineAt, pairLine, tagLine, listHeader, listLine}
 use Rattle.text.specs.LineLaws.{pairLine-length, tagLine-length, Lines, flatten-length, line-flatten, list-header-line, list-line}
-use Rattle.list.specs.Reading.{Listed, malformed, lineCount, tagCount, tagsFrom, listedIn, readingOf}
+use Rattle.list.specs.Reading.{malformed, lineCount, tagCount, tagsFrom, listedIn, readingOf}
 use Rattle.list.specs.ReadingLaws.{header-well, line-well, read-answered}
 use Rattle.list.specs.Text.{textOf}
 

@@ -3,23 +3,13 @@ use refusal::First;
 use refusal::Reason;
 use refusal::Refusal;
 use text::Pair;
-use text::Tag;
 ghost use mathlib.Core.Path.{_≡_};
 ghost use mathlib.Core.List.{_++_};
-ghost use mathlib.Core.Bool.{false};
-ghost use mathlib.Core.Option.{Option·getD};
-ghost use Prim.Native.Nat.{_-_, _*_, _≤_};
+ghost use Prim.Native.Nat.{_≤_};
 ghost use lib.ListN.{length, take, drop};
-ghost use Rattle.refusal.specs.Limits.{tagsMax};
 ghost use Rattle.refusal.specs.Outcome.{refused, answeredBy};
-ghost use Rattle.lists.specs.First.{first};
-ghost use Rattle.refusal.specs.Answer.{firstMeaning};
-ghost use Rattle.list.specs.Reading.{malformed, readingOf, cellsAfter};
-ghost use Rattle.list.specs.Stored.{tagsStored};
+ghost use Rattle.list.specs.Reading.{readingOf, cellsAfter};
 ghost use Rattle.list.specs.Answer.{headOf, listOutcome};
-
-// Cells for every tag of a list.
-const TAG_CELLS: usize = refusal::TAGS_MAX;
 
 // What reading answers: B, L and the count, the tags being in the cells; or refused.
 pub enum ListAnswer {
@@ -42,8 +32,9 @@ pub fn read_list(text: &[u8], cells: &mut [u32]) -> ListAnswer
         return malformed(0);
     };
     let lines = text.len() / 11;
-    let mut tags = [0u32; TAG_CELLS];
-    if let First::At(k) = read_lines(text, lines, &mut tags) {
+    let mut tags = [0u32; text::TAG_CELLS];
+    // Every line is examined, also those that there is no cell for: 16 comes before 5.
+    if let First::At(k) = text::read_tag_lines(text, 1, lines, &mut tags) {
         return malformed(k);
     }
     let count = lines - 1;
@@ -71,27 +62,6 @@ fn malformed(k: usize) -> ListAnswer
         reason: Reason::MalformedList,
         place: k,
     })
-}
-
-// The first malformed line of a text of so many lines whose line 0 is well formed. The tags of the lines before it are stored, as
-// many as there are cells for; a line after those is examined all the same, since 16 comes before 5.
-fn read_lines(text: &[u8], lines: usize, tags: &mut [u32; TAG_CELLS]) -> First
-    requires { ⌜ (1 ≤ lines) × (11 * lines ≤ length (now text)) × (malformed (now text) 0 ≡ false) ⌝ }
-    requires { ⌜ length (now tags) ≡ tagsMax ⌝ }
-    ensures answer { λ r. ⌜ firstMeaning r ≡ first (malformed (now (text .entry))) lines ⌝ }
-    ensures tags { λ r. ⌜ now (tags .exit) ≡ tagsStored (Option·getD (firstMeaning r) lines - 1) (now (text .entry)) (now (tags .entry)) ⌝ }
-{
-    let mut k = 1;
-    while k < lines {
-        let Tag::Number(t) = text::read_list_line(text, 11 * k) else {
-            return First::At(k);
-        };
-        if k <= TAG_CELLS {
-            tags[k - 1] = t;
-        }
-        k += 1;
-    }
-    First::Nowhere
 }
 
 // Copies the first `count` tags into the cells; the cells after them stay.

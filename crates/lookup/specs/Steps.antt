@@ -1,5 +1,5 @@
 -- The steps of a lookup behind the opening checks. Assumes nothing.
-use Prim.Native.Nat.{ℕ, suc, _+_, _-_}
+use Prim.Native.Nat.{ℕ, zero, suc, _+_, _-_}
 use mathlib.Core.Bool.{cond}
 use mathlib.Core.Option.{Option, some, Option·map}
 use lib.Dec.{eqb, ltb}
@@ -20,6 +20,13 @@ slotsOf v start end seed t =
     (atSlot v t (start + placeOf (end - start) seed 0 t)
     (atSlot v t (start + placeOf (end - start) seed 1 t)
     (answered unknown)))
+
+-- Of these, the slots from a choice on: choices 0 and 1, choice 1, or none, in a group of n tags.
+unfoldable pub slotsFrom : View → ℕ → ℕ → ℕ → ℕ → ℕ → Outcome Found
+slotsFrom v start n seed t zero =
+    atSlot v t (start + placeOf n seed 0 t) (atSlot v t (start + placeOf n seed 1 t) (answered unknown))
+slotsFrom v start n seed t (suc zero) = atSlot v t (start + placeOf n seed 1 t) (answered unknown)
+slotsFrom v start n seed t (suc (suc choice)) = answered unknown
 
 -- Behind the opening checks: the group's lines, its fault, its slots.
 unfoldable pub groupOutcome : View → ℕ → ℕ → Outcome Found

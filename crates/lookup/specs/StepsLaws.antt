@@ -1,12 +1,12 @@
 -- Each step of a lookup, by what the lines read as. Assumes nothing.
-use mathlib.Core.Path.{_≡_, refl, sym, _∙_, ap}
-use mathlib.Core.Bool.{Bool, true, false, cond, not, _&&_, _||_, or-true}
-use mathlib.Core.List.{List, [], _∷_, _++_}
+use mathlib.Core.Path.{_≡_, refl, _∙_, ap}
+use mathlib.Core.Bool.{Bool, true, false, not, _&&_, _||_}
+use mathlib.Core.List.{List}
 use mathlib.Core.Option.{Option, none, some, Option·getD, Option·map}
-use Prim.Native.Nat.{ℕ, suc, _+_, _-_, _≤_, _<_}
+use Prim.Native.Nat.{ℕ, zero, suc, _+_, _-_, _≤_, _<_}
 use native.Mathlib.Omega.{arith}
-use lib.Dec.{eqb, ltb}
-use borrow.Author.Tests.{eq-eqb, ne-eqb, lt-ltb, le-ltb, ltb-true, ltb-false}
+use lib.Dec.{ltb}
+use borrow.Author.Tests.{eq-eqb, ne-eqb, lt-ltb, le-ltb}
 use Rattle.refusal.specs.Outcome.{Outcome, answered, refused}
 use Rattle.lists.specs.First.{metAt, isSome}
 use Rattle.refusal.specs.Checks.{inOrder}
@@ -18,7 +18,7 @@ use Rattle.image.specs.Checking.{openingChecks}
 use Rattle.image.specs.Lookup.{Found, number, unknown, groupChecks, lookupChecks, atSlot, lookupInGroup, lookupOf}
 use Rattle.opening.specs.Opening.{openingOf}
 use Rattle.opening.specs.OpeningLaws.{opening-refused, opening-passes, Opens, opening-answered}
-use Rattle.lookup.specs.Steps.{endOf, slotsOf, groupOutcome}
+use Rattle.lookup.specs.Steps.{endOf, slotsOf, slotsFrom, groupOutcome}
 
 module _ (image : List ℕ) where
   -- Where a group ends.
@@ -60,30 +60,26 @@ module _ (image : List ℕ) where
     unfolding slotsOf
     slots-empty e = rw (eq-eqb start end e)
 
-    -- In another, the slot of choice 0 and then the slot of choice 1; p and q are the tag's places.
-    module _ (groups : ℕ) (same : groupsIn (viewOf image) ≡ groups) (filled : start ≡ end → ⊥) (p : ℕ) (place : p ≡ placeOf (end - start) seed 0 t) where
-      looked : slotsOf (viewOf image) start end seed t ≡ atSlot (viewOf image) t (start + p) (atSlot (viewOf image) t (start + placeOf (end - start) seed 1 t) (answered unknown))
-      unfolding slotsOf
-      looked = rw (ne-eqb start end filled, place)
+    -- In another, the slots of both choices.
+    pub slots-filled : (start ≡ end → ⊥)
+        → slotsOf (viewOf image) start end seed t ≡ slotsFrom (viewOf image) start (end - start) seed t 0
+    unfolding slotsOf slotsFrom
+    slots-filled filled = rw (ne-eqb start end filled)
 
-      pub first-malformed : slotLine (lineAt (1 + groups + (start + p)) image) ≡ none → slotsOf (viewOf image) start end seed t ≡ refused 12 (1 + groups + (start + p))
-      first-malformed e = looked ∙ slot-malformed groups t (start + p) same _ e
+  -- One choice, and what is left then.
+  pub slots-turn : (start n seed t choice : ℕ) → choice < 2
+      → slotsFrom (viewOf image) start n seed t choice
+      ≡ atSlot (viewOf image) t (start + placeOf n seed choice t) (slotsFrom (viewOf image) start n seed t (choice + 1))
+  unfolding slotsFrom
+  slots-turn start n seed t zero lt = refl
+  slots-turn start n seed t (suc zero) lt = refl
+  slots-turn start n seed t (suc (suc choice)) lt = absurd (omega arith)
 
-      pub first-holds : slotLine (lineAt (1 + groups + (start + p)) image) ≡ some t → slotsOf (viewOf image) start end seed t ≡ answered (number (start + p))
-      first-holds e = looked ∙ slot-holds groups t (start + p) same _ e
-
-      module _ (u : ℕ) (line : slotLine (lineAt (1 + groups + (start + p)) image) ≡ some u) (other : u ≡ t → ⊥) (q : ℕ) (place′ : q ≡ placeOf (end - start) seed 1 t) where
-        passed : slotsOf (viewOf image) start end seed t ≡ atSlot (viewOf image) t (start + q) (answered unknown)
-        passed = looked ∙ slot-other groups t (start + p) same _ line other ∙ rw place′
-
-        pub second-malformed : slotLine (lineAt (1 + groups + (start + q)) image) ≡ none → slotsOf (viewOf image) start end seed t ≡ refused 12 (1 + groups + (start + q))
-        second-malformed e = passed ∙ slot-malformed groups t (start + q) same (answered unknown) e
-
-        pub second-holds : slotLine (lineAt (1 + groups + (start + q)) image) ≡ some t → slotsOf (viewOf image) start end seed t ≡ answered (number (start + q))
-        second-holds e = passed ∙ slot-holds groups t (start + q) same (answered unknown) e
-
-        pub neither-holds : (w : ℕ) → slotLine (lineAt (1 + groups + (start + q)) image) ≡ some w → (w ≡ t → ⊥) → slotsOf (viewOf image) start end seed t ≡ answered unknown
-        neither-holds w e other′ = passed ∙ slot-other groups t (start + q) same (answered unknown) e other′
+  pub slots-done : (start n seed t choice : ℕ) → 2 ≤ choice → slotsFrom (viewOf image) start n seed t choice ≡ answered unknown
+  unfolding slotsFrom
+  slots-done start n seed t zero le = absurd (omega arith)
+  slots-done start n seed t (suc zero) le = absurd (omega arith)
+  slots-done start n seed t (suc (suc choice)) le = refl
 
   -- The group's lines, its fault, its slots.
   module _ (t g line : ℕ) (at : line ≡ suc g) where

@@ -6,7 +6,6 @@ use text::Pair;
 use text::Tag;
 ghost use mathlib.Core.Path.{_≡_};
 ghost use Prim.Native.Nat.{_*_, _+_, _≤_, _<_};
-ghost use lib.ListN.{length};
 ghost use Rattle.refusal.specs.Outcome.{refused};
 ghost use Rattle.refusal.specs.Limits.{tagsMax, groupsMax, seedMax};
 ghost use Rattle.hash.specs.Formula.{groupOf};
@@ -109,21 +108,15 @@ fn in_slots(image: &[u8], groups: u32, start: u32, end: u32, seed: u32, tag: u32
         return LookupAnswer::Unknown;
     }
     let n = end - start;
-    let first = start + hash::place_of(n, seed, 0, tag);
-    let line = 1 + groups as usize + first as usize;
-    let Tag::Number(held) = text::read_slot_line(image, 11 * line) else {
-        return malformed(line);
-    };
-    if held == tag {
-        return LookupAnswer::Number(first);
-    }
-    let second = start + hash::place_of(n, seed, 1, tag);
-    let line = 1 + groups as usize + second as usize;
-    let Tag::Number(held) = text::read_slot_line(image, 11 * line) else {
-        return malformed(line);
-    };
-    if held == tag {
-        return LookupAnswer::Number(second);
+    for choice in 0..2 {
+        let slot = start + hash::place_of(n, seed, choice, tag);
+        let line = 1 + groups as usize + slot as usize;
+        let Tag::Number(held) = text::read_slot_line(image, 11 * line) else {
+            return malformed(line);
+        };
+        if held == tag {
+            return LookupAnswer::Number(slot);
+        }
     }
     LookupAnswer::Unknown
 }

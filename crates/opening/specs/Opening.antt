@@ -3,7 +3,7 @@ use Prim.Native.Nat.{ℕ}
 use mathlib.Core.List.{List}
 use Rattle.refusal.specs.Outcome.{Outcome, answered}
 use Rattle.refusal.specs.Checks.{inOrder}
-use Rattle.image.specs.View.{View, viewOf, countIn, groupsIn}
+use Rattle.image.specs.View.{viewOf, countIn, groupsIn}
 use Rattle.image.specs.Checking.{openingChecks}
 
 -- "11: fewer than 11 bytes. 12 at place 0: line 0 is malformed. 11: length is not 11 × (1 + B + N)": N and B, or that refusal.

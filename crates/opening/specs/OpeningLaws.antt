@@ -1,23 +1,22 @@
 -- What follows from how an image opens, for what stands behind the opening checks. Assumes nothing.
-use mathlib.Core.Path.{_≡_, refl, sym, _∙_, ap}
-use mathlib.Core.Bool.{Bool, true, false, not}
-use mathlib.Core.List.{List, [], _∷_}
-use mathlib.Core.Option.{Option, none, some, Option·getD}
+use mathlib.Core.Path.{_≡_, sym, _∙_, ap}
+use mathlib.Core.Bool.{not}
+use mathlib.Core.List.{List}
+use mathlib.Core.Option.{none, some}
 use Prim.Native.Nat.{ℕ, _+_, _*_, _≤_, _<_}
-use native.Mathlib.Omega.{arith}
-use lib.Dec.{eqb, ltb}
+use lib.Dec.{eqb}
 use lib.ListN.{length}
-use borrow.Author.Tests.{le-ltb, lt-ltb, eq-eqb, ne-eqb, ltb-false, eqb-true, not-false}
+use borrow.Author.Tests.{le-ltb, lt-ltb, eq-eqb, ne-eqb, eqb-true, not-false}
 use Rattle.refusal.specs.Limits.{tagsMax, groupsMax}
 use Rattle.refusal.specs.Outcome.{Outcome, answered, refused}
 use Rattle.lists.specs.First.{metAt, isSome}
 use Rattle.lists.specs.FirstLaws.{some-of-isSome}
 use Rattle.refusal.specs.Checks.{met, inOrder}
-use Rattle.refusal.specs.ChecksLaws.{Pass, inOrder-pass, inOrder-answered, inOrder-refused, refused-inOrder, false-of-met}
+use Rattle.refusal.specs.ChecksLaws.{inOrder-pass, inOrder-answered, inOrder-refused, refused-inOrder, false-of-met}
 use Rattle.text.specs.Line.{lineLength, lineAt, imageHeader}
 use Rattle.text.specs.LineLaws.{image-header-only}
 use Rattle.image.specs.Sheet.{imageLength}
-use Rattle.image.specs.View.{View, viewOf, countIn, groupsIn}
+use Rattle.image.specs.View.{viewOf, countIn, groupsIn}
 use Rattle.image.specs.Checking.{openingChecks}
 use Rattle.opening.specs.Opening.{openingOf}
 

@@ -17,25 +17,21 @@ pub enum Opened {
 pub fn open(image: &[u8]) -> Opened
     ensures answer { λ r. ⌜ openedOutcome r ≡ openingOf (now (image .entry)) ⌝ }
 {
-    if image.len() < 11 {
-        return Opened::Refused(Refusal {
-            reason: Reason::WrongLength,
-            place: 0,
-        });
+    if 11 <= image.len() {
+        let Pair::Numbers(count, groups) = text::read_image_header(image, 0) else {
+            return Opened::Refused(Refusal {
+                reason: Reason::MalformedLine,
+                place: 0,
+            });
+        };
+        if image.len() == 11 * (1 + groups + count) as usize {
+            return Opened::Counts(count, groups);
+        }
     }
-    let Pair::Numbers(count, groups) = text::read_image_header(image, 0) else {
-        return Opened::Refused(Refusal {
-            reason: Reason::MalformedLine,
-            place: 0,
-        });
-    };
-    if image.len() != 11 * (1 + groups as usize + count as usize) {
-        return Opened::Refused(Refusal {
-            reason: Reason::WrongLength,
-            place: 0,
-        });
-    }
-    Opened::Counts(count, groups)
+    Opened::Refused(Refusal {
+        reason: Reason::WrongLength,
+        place: 0,
+    })
 }
 
 // Is group g faulty, which starts at `start` and after which `next` comes?

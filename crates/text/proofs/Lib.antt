@@ -1,5 +1,6 @@
-pub mod Columns
-pub mod Reading
+pub mod Leading
+pub mod Lines
+pub mod Fields
+pub mod Examined
 pub mod Writing
 pub mod Parts
-pub mod Lines

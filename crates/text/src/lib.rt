@@ -1,18 +1,28 @@
 // Fields and lines of a text: read where they stand, and written in place.
+use columns::Eight;
+use columns::Fours;
+use refusal::First;
 ghost use mathlib.Core.Path.{_≡_};
 ghost use mathlib.Core.Bool.{cond};
-ghost use mathlib.Core.List.{_++_};
-ghost use Prim.Native.Nat.{_+_, _%_, _≤_};
+ghost use mathlib.Core.List.{[], _∷_, _++_};
+ghost use Prim.Native.Nat.{_+_, _*_, _%_, _≤_, _<_};
 ghost use lib.Dec.{eqb, ltb};
 ghost use lib.ListN.{length, take, drop};
-ghost use Rattle.refusal.specs.Limits.{tagEnd};
+ghost use Rattle.refusal.specs.Limits.{tagEnd, tagsMax};
+ghost use Rattle.lists.specs.First.{first};
+ghost use Rattle.refusal.specs.Answer.{firstMeaning};
+ghost use Rattle.columns.specs.Columns.{columnOf, leadingFrom};
 ghost use Rattle.text.specs.Figure.{figure};
 ghost use Rattle.text.specs.Field.{field};
-ghost use Rattle.text.specs.Line.{lineLength, pairLine, tagLine, ended, pairOf, tagOf, within, imageHeader, groupLine, slotLine, listHeader, listLine};
+ghost use Rattle.text.specs.Line.{lineLength, pairLine, tagLine, pairOf, tagOf, within, imageHeader, groupLine, slotLine, listHeader, listLine};
+ghost use Rattle.text.specs.TagLines.{noTagFrom, passed, tagsStored};
 ghost use Rattle.text.specs.Answer.{fieldMeaning, pairMeaning, tagMeaning};
 
 // Every line is ten columns and a line feed.
 pub const LINE_LENGTH: usize = 11;
+
+// Cells for the tags of a list, or of an image's slots.
+pub const TAG_CELLS: usize = refusal::TAGS_MAX;
 
 // What a field reads as.
 pub enum Field {
@@ -46,43 +56,36 @@ fn part(bytes: &[u8], at: usize, width: usize) -> &[u8]
     &bytes[at..end]
 }
 
-// The number whose figure the bytes are. A digit is a byte that is at most 9 above '0'; one below '0' wraps far above 9.
-fn read_figure(s: &[u8]) -> Field
-    requires { ⌜ length (now s) ≤ 19 ⌝ }
-    ensures answer { λ r. ⌜ fieldMeaning r ≡ field (length (now (s .entry))) (now (s .entry)) ⌝ }
+// The byte of a leading column with this digit, where the number up to it is n: a space as long as that is 0.
+fn column_byte(n: u64, digit: u8) -> u8
+    requires { ⌜ digit < 10 ⌝ }
+    ensures answer { λ r. ⌜ r ≡ columnOf n digit ⌝ }
 {
-    let mut i = 0;
-    loop {
-        if s.len() <= i {
-            return Field::Malformed;
-        }
-        if s[i] != b' ' {
-            break;
-        }
-        i += 1;
-    }
-    let first = std::num::wrapping_sub_u8(s[i], b'0');
-    if 10 <= first {
+    if n == 0 { b' ' } else { b'0' + digit }
+}
+
+// One leading column more behind those of v. Its digit is the lower half of its byte.
+fn leading_column(v: u64, byte: u8) -> Field
+    requires { ⌜ v < 1000000000000000000 ⌝ }
+    ensures answer { λ r. ⌜ fieldMeaning r ≡ leadingFrom v (byte ∷ []) ⌝ }
+{
+    let low = byte % 16;
+    if 10 <= low {
         return Field::Malformed;
     }
-    i += 1;
-    // A first digit 0 is the whole figure.
-    if first == 0 {
-        if i < s.len() {
-            return Field::Malformed;
-        }
-        return Field::Value(0);
+    let n = v * 10 + low as u64;
+    if byte != column_byte(n, low) {
+        return Field::Malformed;
     }
-    let mut value = first as u64;
-    while i < s.len() {
-        let digit = std::num::wrapping_sub_u8(s[i], b'0');
-        if 10 <= digit {
-            return Field::Malformed;
-        }
-        value = value * 10 + digit as u64;
-        i += 1;
-    }
-    Field::Value(value)
+    Field::Value(n)
+}
+
+// How far a line's last column and its line feed, as one number, are above '0' and a line feed: at most 9 where they are a digit
+// and a line feed. What is below wraps far above 9.
+fn end_digit(byte: u8, feed: u8) -> u16
+    ensures answer { λ r. ⌜ (r + 2608) % 65536 ≡ byte + 256 * feed ⌝ }
+{
+    std::num::wrapping_sub_u16(byte as u16 | feed as u16 * 256, 0x0a30)
 }
 
 // The number in a field of so many columns that starts at a byte of the text. A field that the text cuts off is malformed.
@@ -94,18 +97,30 @@ pub fn read_field(bytes: &[u8], at: usize, width: usize) -> Field
     if s.len() != width {
         return Field::Malformed;
     }
-    read_figure(s)
+    if width == 0 {
+        return Field::Malformed;
+    }
+    let mut v = 0;
+    let mut i = 0;
+    while i < width - 1 {
+        let Field::Value(n) = leading_column(v, s[i]) else {
+            return Field::Malformed;
+        };
+        v = n;
+        i += 1;
+    }
+    let digit = std::num::wrapping_sub_u8(s[i], b'0');
+    if 10 <= digit {
+        return Field::Malformed;
+    }
+    Field::Value(v * 10 + digit as u64)
 }
 
 // The byte of a column before the last: the last digit of what is left to write, or a space where nothing is.
 fn leading_byte(rest: u64) -> u8
     ensures answer { λ r. ⌜ r ≡ cond (eqb rest 0) 32 (48 + rest % 10) ⌝ }
 {
-    if rest == 0 {
-        b' '
-    } else {
-        b'0' + (rest % 10) as u8
-    }
+    column_byte(rest, (rest % 10) as u8)
 }
 
 // Writes the figure of n over the whole slice, from the right.
@@ -135,55 +150,95 @@ pub fn write_field(buffer: &mut [u8], at: usize, width: usize, n: u64)
     write_figure(&mut buffer[at..end], n);
 }
 
-// Is it a whole line, with its line feed?
-fn ended(line: &[u8]) -> bool
-    ensures answer { λ r. ⌜ r ≡ ended (now (line .entry)) ⌝ }
+// The two fields of five columns of a whole line, in any range.
+fn pair_in(line: &[u8]) -> Pair
+    requires { ⌜ length (now line) ≡ lineLength ⌝ }
+    ensures answer { λ r. ⌜ pairMeaning r ≡ pairOf (now (line .entry)) ⌝ }
 {
-    if line.len() != LINE_LENGTH {
-        return false;
-    }
-    line[10] == b'\n'
-}
-
-// A line's two fields of five columns, in any range.
-fn read_pair(bytes: &[u8], at: usize) -> Pair
-    ensures answer { λ r. ⌜ pairMeaning r ≡ pairOf (take lineLength (drop at (now (bytes .entry)))) ⌝ }
-{
-    let line = part(bytes, at, LINE_LENGTH);
-    if !ended(line) {
-        return Pair::Malformed;
-    }
-    let Field::Value(a) = read_field(line, 0, 5) else {
+    let Fours::Numbers(m, n) = columns::two_fours(line) else {
         return Pair::Malformed;
     };
-    let Field::Value(b) = read_field(line, 5, 5) else {
+    let first = std::num::wrapping_sub_u8(line[4], b'0');
+    if 10 <= first {
         return Pair::Malformed;
-    };
-    Pair::Numbers(a as u32, b as u32)
-}
-
-// A line's one field of ten columns, in any range.
-fn read_number(bytes: &[u8], at: usize) -> Field
-    ensures answer { λ r. ⌜ fieldMeaning r ≡ tagOf (take lineLength (drop at (now (bytes .entry)))) ⌝ }
-{
-    let line = part(bytes, at, LINE_LENGTH);
-    if !ended(line) {
-        return Field::Malformed;
     }
-    read_field(line, 0, 10)
+    let second = end_digit(line[9], line[10]);
+    if 10 <= second {
+        return Pair::Malformed;
+    }
+    Pair::Numbers(m as u32 * 10 + first as u32, n as u32 * 10 + second as u32)
 }
 
-// A line's one tag: its number, if it fits 32 bits.
-fn read_tag(bytes: &[u8], at: usize) -> Tag
-    ensures answer { λ r. ⌜ tagMeaning r ≡ within (λ t. ltb t tagEnd) (tagOf (take lineLength (drop at (now (bytes .entry))))) ⌝ }
+// The one tag of a whole line: the number in its ten columns, if it fits 32 bits.
+fn tag_in(line: &[u8]) -> Tag
+    requires { ⌜ length (now line) ≡ lineLength ⌝ }
+    ensures answer { λ r. ⌜ tagMeaning r ≡ within (λ t. ltb t tagEnd) (tagOf (now (line .entry))) ⌝ }
 {
-    let Field::Value(t) = read_number(bytes, at) else {
+    let Eight::Number(eight) = columns::eight_columns(line) else {
         return Tag::Malformed;
     };
+    let Field::Value(nine) = leading_column(eight as u64, line[8]) else {
+        return Tag::Malformed;
+    };
+    let last = end_digit(line[9], line[10]);
+    if 10 <= last {
+        return Tag::Malformed;
+    }
+    let t = nine * 10 + last as u64;
     if refusal::TAG_MAX < t {
         return Tag::Malformed;
     }
     Tag::Number(t as u32)
+}
+
+// The line at a byte of the text, two fields or one tag. A line that the text cuts off is malformed.
+fn read_pair(bytes: &[u8], at: usize) -> Pair
+    ensures answer { λ r. ⌜ pairMeaning r ≡ pairOf (take lineLength (drop at (now (bytes .entry)))) ⌝ }
+{
+    if bytes.len() < LINE_LENGTH {
+        return Pair::Malformed;
+    }
+    if bytes.len() - LINE_LENGTH < at {
+        return Pair::Malformed;
+    }
+    let end = at + LINE_LENGTH;
+    pair_in(&bytes[at..end])
+}
+
+fn read_tag(bytes: &[u8], at: usize) -> Tag
+    ensures answer { λ r. ⌜ tagMeaning r ≡ within (λ t. ltb t tagEnd) (tagOf (take lineLength (drop at (now (bytes .entry))))) ⌝ }
+{
+    if bytes.len() < LINE_LENGTH {
+        return Tag::Malformed;
+    }
+    if bytes.len() - LINE_LENGTH < at {
+        return Tag::Malformed;
+    }
+    let end = at + LINE_LENGTH;
+    tag_in(&bytes[at..end])
+}
+
+// The first line from line `from` on, before line `end`, that is no tag's. The tags of the lines before it are stored, as many as
+// there are cells; the lines after those are examined all the same.
+pub fn read_tag_lines(bytes: &[u8], from: usize, end: usize, cells: &mut [u32; TAG_CELLS]) -> First
+    requires { ⌜ (from ≤ end) × (lineLength * end ≤ length (now bytes)) ⌝ }
+    requires { ⌜ length (now cells) ≡ tagsMax ⌝ }
+    ensures answer { λ r. ⌜ firstMeaning r ≡ first (noTagFrom from (now (bytes .entry))) end ⌝ }
+    ensures cells { λ r. ⌜ now (cells .exit) ≡ tagsStored (passed (firstMeaning r) from end) from (now (bytes .entry)) (now (cells .entry)) ⌝ }
+{
+    let mut k = from;
+    while k < end {
+        let at = 11 * k;
+        let after = at + LINE_LENGTH;
+        let Tag::Number(t) = tag_in(&bytes[at..after]) else {
+            return First::At(k);
+        };
+        if k - from < TAG_CELLS {
+            cells[k - from] = t;
+        }
+        k += 1;
+    }
+    First::Nowhere
 }
 
 // Line 0 of an image: N, at most 4,096, and B, 1 to 512.

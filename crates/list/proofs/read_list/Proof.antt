@@ -11,11 +11,11 @@ use Rattle.refusal.specs.OutcomeLaws.{by-answered, by-refused}
 use Rattle.refusal.specs.Answer.{firstMeaning}
 use Rattle.text.specs.Line.{listHeader}
 use Rattle.text.specs.LineLaws.{line-reads}
+use Rattle.text.specs.TagLinesLaws.{stored-length, stored-tags}
 use Rattle.text.specs.Answer.{pairMeaning}
 use Rattle.list.specs.Reading.{lineCount, tagCount, tagsFrom, listedIn, readingOf, cellsAfter}
 use Rattle.list.specs.Answer.{ListHead, headOf}
-use Rattle.list.specs.ReadingLaws.{header-well, header-malformed, tagsFrom-length, head-is, read-short, read-uneven, read-header-malformed, read-malformed, read-many, read-narrow, read-answered}
-use Rattle.list.specs.StoredLaws.{stored-length, stored-tags}
+use Rattle.list.specs.ReadingLaws.{header-malformed, malformed-lines, tags-on, tagsFrom-length, head-is, read-short, read-uneven, read-header-malformed, read-malformed, read-many, read-narrow, read-answered}
 use Rattle.list.proofs.read_list.Statement.{statement}
 use Rattle.list.proofs.read_list.Tie as tie
 
@@ -81,15 +81,10 @@ returns-3 c =
     (read-header-malformed text _ (long .if1 .left) (read .before .if2 .left) (header-malformed text header))
     (c .malformed3 .ensures)
 
-read-lines-requires : tie.Need-read-lines-requires
-read-lines-requires c κs =
-    let told = c .before .before in
-    let read = told .before .before in
-    let long = read .before .before in
-    let a = long .before .before .before .args in
-    let text = a .text .now in
-    let header = line-reads pairMeaning listHeader text 0 0 (read .read-list-header .ensures) (told .groups .given .1) refl in
-    ((omega (arith, long .if1 .left), omega arith, header-well text header), refl)
+read-tag-lines-requires : tie.Need-read-tag-lines-requires
+read-tag-lines-requires c κs =
+    let long = c .before .before .before .before .before .before in
+    ((omega (arith, long .if1 .left), omega arith), refl)
 
 enum-known-k : tie.Need-enum-known-k
 enum-known-k c = search needs
@@ -102,10 +97,12 @@ unfolding Promised lineCount
 returns-4 c =
     let found = c .before .before in
     let scanned = found .before .before in
-    let read = scanned .before .before .before .before .before in
+    let told = scanned .before .before .before in
+    let read = told .before .before in
     let long = read .before .before in
     let a = long .before .before .before .args in
-    let at-k = sym (scanned .read-lines .ensures .0) ∙ ap firstMeaning (found .k .given .1) in
+    let header = line-reads pairMeaning listHeader (a .text .now) 0 0 (read .read-list-header .ensures) (told .groups .given .1) refl in
+    let at-k = malformed-lines (a .text .now) header _ (scanned .read-tag-lines .ensures .0) ∙ ap firstMeaning (found .k .given .1) in
     refuses (a .text .now) (a .cells .now)
     (read-malformed (a .text .now) _ (long .if1 .left) (read .before .if2 .left) at-k)
     (c .malformed4 .ensures)
@@ -121,10 +118,13 @@ unfolding Promised tagCount lineCount
 returns-5 c =
     let none-found = c .before in
     let scanned = none-found .before .before in
-    let read = scanned .before .before .before .before .before in
+    let told = scanned .before .before .before in
+    let read = told .before .before in
     let long = read .before .before in
     let a = long .before .before .before .args in
-    let well = sym (scanned .read-lines .ensures .0) ∙ ap firstMeaning (none-found .enum-told2 .given .1) in
+    let header = line-reads pairMeaning listHeader (a .text .now) 0 0 (read .read-list-header .ensures) (told .groups .given .1) refl in
+    let none = ap firstMeaning (none-found .enum-told2 .given .1) in
+    let well = malformed-lines (a .text .now) header _ (scanned .read-tag-lines .ensures .0) ∙ none in
     refuses (a .text .now) (a .cells .now)
     (read-many (a .text .now) _ (long .if1 .left) (read .before .if2 .left) well (c .if3 .taken)) refl
 
@@ -133,23 +133,26 @@ unfolding Promised tagCount lineCount
 returns-6 c =
     let none-found = c .before .before in
     let scanned = none-found .before .before in
-    let read = scanned .before .before .before .before .before in
+    let told = scanned .before .before .before in
+    let read = told .before .before in
     let long = read .before .before in
     let a = long .before .before .before .args in
-    let well = sym (scanned .read-lines .ensures .0) ∙ ap firstMeaning (none-found .enum-told2 .given .1) in
+    let header = line-reads pairMeaning listHeader (a .text .now) 0 0 (read .read-list-header .ensures) (told .groups .given .1) refl in
+    let none = ap firstMeaning (none-found .enum-told2 .given .1) in
+    let well = malformed-lines (a .text .now) header _ (scanned .read-tag-lines .ensures .0) ∙ none in
     refuses (a .text .now) (a .cells .now)
     (read-narrow (a .text .now) _ (long .if1 .left) (read .before .if2 .left) well (c .before .if3 .left) (c .if4 .taken)) refl
 
 slice-aggregate-copy : tie.Need-slice-aggregate-copy
 slice-aggregate-copy c =
     let scanned = c .before .before .before .before .before in
-    sym (ap length (scanned .read-lines .ensures .1) ∙ stored-length _ _ _)
+    sym (ap length (scanned .read-tag-lines .ensures .1) ∙ stored-length _ _ _ _)
 
 copy-requires : tie.Need-copy-requires
 copy-requires c κs =
     let wide = c .before .before in
     let scanned = wide .before .before .before .before in
-    let long = ap length (scanned .read-lines .ensures .1) ∙ stored-length _ _ _ in
+    let long = ap length (scanned .read-tag-lines .ensures .1) ∙ stored-length _ _ _ _ in
     (omega (arith, long, wide .before .if3 .left), wide .if4 .left)
 
 same-length : tie.Need-same-length
@@ -168,13 +171,13 @@ returns-7 c =
     let a = long .before .before .before .args in
     let text = a .text .now in
     let none = ap firstMeaning (none-found .enum-told2 .given .1) in
-    let well = sym (scanned .read-lines .ensures .0) ∙ none in
     let header = line-reads pairMeaning listHeader text 0 0 (read .read-list-header .ensures) (told .groups .given .1) refl in
-    let stored = rw none at (scanned .read-lines .ensures .1) in
+    let well = malformed-lines text header _ (scanned .read-tag-lines .ensures .0) ∙ none in
+    let stored = rw none at (scanned .read-tag-lines .ensures .1) in
     reads text (a .cells .now)
     (read-answered text _ (long .if1 .left) (read .before .if2 .left) well (wide .before .if3 .left) (wide .if4 .left))
     (sym (ap answered (head-is text header)))
-    (copied .copy .ensures ∙ rw (stored, stored-tags text _ (tagCount text) (wide .before .if3 .left)))
+    (copied .copy .ensures ∙ rw (stored, stored-tags 1 text _ (tagCount text) (wide .before .if3 .left), tags-on (tagCount text) 1 text))
 
 pub read-list-spec : {M : Type 1} → statement M
 read-list-spec =
@@ -189,7 +192,7 @@ read-list-spec =
     enum-told
     malformed-requires-3
     returns-3
-    read-lines-requires
+    read-tag-lines-requires
     enum-known-k
     malformed-requires-4
     returns-4

@@ -1,9 +1,8 @@
 -- `lookup::in_group` meets its contract: the group's lines are read, its fault is tested, and its slots decide. Assumes nothing.
 use borrow.Author.Needs.{needs}
-use mathlib.Core.Path.{_≡_, refl, sym, _∙_, ap}
+use mathlib.Core.Path.{refl, sym, _∙_, ap}
 use mathlib.Core.Bool.{or-true}
-use mathlib.Core.Option.{none, some}
-use Prim.Native.Nat.{_+_, _≤_, _<_}
+use Prim.Native.Nat.{_+_}
 use native.Mathlib.Omega.{arith}
 use borrow.Author.Tests.{lt-ltb}
 use Rattle.hash.specs.FormulaLaws.{group-below}

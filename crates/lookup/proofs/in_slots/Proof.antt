@@ -1,154 +1,157 @@
--- `lookup::in_slots` meets its contract: a slot's line is malformed, holds the tag, or leaves it to the next. Assumes nothing.
+-- `lookup::in_slots` meets its contract: a slot's line is malformed, holds the tag, or leaves it to the next choice. Assumes nothing.
 use borrow.Author.Needs.{needs}
 use mathlib.Core.Path.{_≡_, refl, sym, _∙_, ap}
-use mathlib.Core.Option.{none, some}
-use Prim.Native.Nat.{_+_, _-_, _<_}
+use mathlib.Core.List.{List}
+use mathlib.Core.Option.{some}
+use Prim.Native.Nat.{ℕ, _+_, _-_, _≤_, _<_}
 use native.Mathlib.Omega.{arith}
 use Rattle.hash.specs.Formula.{placeOf}
 use Rattle.hash.specs.FormulaLaws.{place-below}
 use Rattle.text.specs.Line.{slotLine}
 use Rattle.text.specs.LineLaws.{line-reads}
 use Rattle.text.specs.Answer.{tagMeaning}
-use Rattle.lookup.specs.StepsLaws.{slots-empty, first-malformed, first-holds, second-malformed, second-holds, neither-holds}
+use Rattle.image.specs.View.{viewOf}
+use Rattle.image.specs.Lookup.{atSlot}
+use Rattle.lookup.specs.Steps.{slotsOf, slotsFrom}
+use Rattle.lookup.specs.StepsLaws.{slots-empty, slots-filled, slots-turn, slots-done, slot-malformed, slot-holds, slot-other}
 use Rattle.lookup.proofs.in_slots.Statement.{statement}
 use Rattle.lookup.proofs.in_slots.Tie as tie
 
-returns : tie.Need-returns
+-- The slots of the choices before this one do not hold the tag, so the answer is what is left to look at.
+record Left (image : List ℕ) (start end seed t choice : ℕ) : Type 0 where
+  few : choice ≤ 2
+  left : slotsOf (viewOf image) start end seed t ≡ slotsFrom (viewOf image) start (end - start) seed t choice
+
+looked : (image : List ℕ) (start end seed t choice : ℕ) → Left image start end seed t choice → choice < 2 → {p : ℕ}
+    → p ≡ placeOf (end - start) seed choice t
+    → slotsOf (viewOf image) start end seed t
+    ≡ atSlot (viewOf image) t (start + p) (slotsFrom (viewOf image) start (end - start) seed t (choice + 1))
+looked image start end seed t choice inv lt place = inv .left ∙ slots-turn image start (end - start) seed t choice lt ∙ rw place
+
+abbrev Inv-loop : tie.InvT-loop
+Inv-loop image groups start end seed tag n choice₀ choice = Left image start end seed tag choice
+
+abbrev μ-loop : tie.MeasureT-loop
+μ-loop image groups start end seed tag n choice₀ choice = 2 - choice
+
+returns : tie.Need-returns Inv-loop μ-loop
 returns c =
     let a = c .before .before .args in
     sym (slots-empty (a .image .now) (a .start) (a .end) (a .seed) (a .tag) (c .if1 .taken))
 
-sub-n : tie.Need-sub-n
+sub-n : tie.Need-sub-n Inv-loop μ-loop
 sub-n c = search needs
 
-place-of-requires : tie.Need-place-of-requires
+loop-holds : tie.Need-loop-holds Inv-loop μ-loop
+loop-holds c =
+    let a = c .before .before .args in
+    record { few = omega arith; left = slots-filled (a .image .now) (a .start) (a .end) (a .seed) (a .tag) (c .if1 .left) }
+
+place-of-requires : tie.Need-place-of-requires Inv-loop μ-loop
 place-of-requires c κs = search needs
 
-add-first : tie.Need-add-first
-add-first c =
-    let a = c .before .before .before .args in
-    let inside = place-below (a .end - a .start) (a .seed) 0 (a .tag) (omega (arith, c .before .if1 .left)) in
+add-slot : tie.Need-add-slot Inv-loop μ-loop
+add-slot c =
+    let loop = c .before .before in
+    let a = loop .before .before .before .args in
+    let inside = place-below (a .end - a .start) (a .seed) (loop .loop .choice) (a .tag) (omega (arith, loop .before .if1 .left)) in
     record { fits = omega (arith, c .place-of .ensures) }
 
-add-line : tie.Need-add-line
+add-line : tie.Need-add-line Inv-loop μ-loop
 add-line c = search needs
 
-cast-line : tie.Need-cast-line
+cast-line : tie.Need-cast-line Inv-loop μ-loop
 cast-line c = search needs
 
-add-line-2 : tie.Need-add-line-2
+add-line-2 : tie.Need-add-line-2 Inv-loop μ-loop
 add-line-2 c = search needs
 
-mul-read-slot-line : tie.Need-mul-read-slot-line
+mul-read-slot-line : tie.Need-mul-read-slot-line Inv-loop μ-loop
 mul-read-slot-line c = search needs
 
-read-slot-line-requires : tie.Need-read-slot-line-requires
+read-slot-line-requires : tie.Need-read-slot-line-requires Inv-loop μ-loop
 read-slot-line-requires c κs = search needs
 
-enum-known-held : tie.Need-enum-known-held
+enum-known-held : tie.Need-enum-known-held Inv-loop μ-loop
 enum-known-held c = search needs
 
-enum-told : tie.Need-enum-told
+enum-told : tie.Need-enum-told Inv-loop μ-loop
 enum-told c = search needs
 
-malformed-requires : tie.Need-malformed-requires
+malformed-requires : tie.Need-malformed-requires Inv-loop μ-loop
 malformed-requires c κs = search needs
 
-returns-2 : tie.Need-returns-2
+returns-2 : tie.Need-returns-2 Inv-loop μ-loop
 returns-2 c =
     let read = c .before .before .before in
-    let start = read .before .before .before .before in
+    let placed = read .before in
+    let turn = placed .before in
+    let loop = turn .before in
+    let start = loop .before .before .before in
     let a = start .args in
-    c .malformed .ensures
-    ∙ sym (first-malformed (a .image .now) (a .start) (a .end) (a .seed) (a .tag) (a .groups) (start .pre .0) (read .before .before .if1 .left) _ (read .before .place-of .ensures)
-    (line-reads tagMeaning slotLine (a .image .now) _ _ (read .read-slot-line .ensures) (c .before .enum-told .given .1) refl))
+    let line = line-reads tagMeaning slotLine (a .image .now) _ _ (read .read-slot-line .ensures) (c .before .enum-told .given .1) refl in
+    let left =
+    looked (a .image .now) (a .start) (a .end) (a .seed) (a .tag) _ (loop .loop .inv) (turn .loop-test .taken)
+    (placed .place-of .ensures) in
+    c .malformed .ensures ∙ sym (left ∙ slot-malformed (a .image .now) (a .groups) (a .tag) _ (start .pre .0) _ line)
 
-returns-3 : tie.Need-returns-3
+returns-3 : tie.Need-returns-3 Inv-loop μ-loop
 returns-3 c =
-    let told = c .before .before in
-    let read = told .before .before in
-    let start = read .before .before .before .before in
+    let read = c .before .before .before .before in
+    let placed = read .before in
+    let turn = placed .before in
+    let loop = turn .before in
+    let start = loop .before .before .before in
     let a = start .args in
-    sym (first-holds (a .image .now) (a .start) (a .end) (a .seed) (a .tag) (a .groups) (start .pre .0) (read .before .before .if1 .left) _ (read .before .place-of .ensures)
-    (line-reads tagMeaning slotLine (a .image .now) _ _ (read .read-slot-line .ensures) (told .held .given .1) refl ∙ ap some (c .if2 .taken)))
+    let told = c .before .before .held .given .1 in
+    let line = line-reads tagMeaning slotLine (a .image .now) _ _ (read .read-slot-line .ensures) told refl in
+    let left =
+    looked (a .image .now) (a .start) (a .end) (a .seed) (a .tag) _ (loop .loop .inv) (turn .loop-test .taken)
+    (placed .place-of .ensures) in
+    sym (left ∙ slot-holds (a .image .now) (a .groups) (a .tag) _ (start .pre .0) _ (line ∙ ap some (c .if2 .taken)))
 
-place-of-requires-2 : tie.Need-place-of-requires-2
-place-of-requires-2 c κs = search needs
+add-choice : tie.Need-add-choice Inv-loop μ-loop
+add-choice c = search needs
 
-add-second : tie.Need-add-second
-add-second c =
-    let else1 = c .before .before .before .before .before .before .before in
-    let a = else1 .before .before .args in
-    let inside = place-below (a .end - a .start) (a .seed) 1 (a .tag) (omega (arith, else1 .if1 .left)) in
-    record { fits = omega (arith, c .place-of2 .ensures) }
+loop-less : tie.Need-loop-less Inv-loop μ-loop
+loop-less c = search needs
 
-add-line-3 : tie.Need-add-line-3
-add-line-3 c = search needs
+loop-again : tie.Need-loop-again Inv-loop μ-loop
+loop-again c =
+    let read = c .before .before .before .before in
+    let placed = read .before in
+    let turn = placed .before in
+    let loop = turn .before in
+    let start = loop .before .before .before in
+    let a = start .args in
+    let told = c .before .before .held .given .1 in
+    let line = line-reads tagMeaning slotLine (a .image .now) _ _ (read .read-slot-line .ensures) told refl in
+    let left =
+    looked (a .image .now) (a .start) (a .end) (a .seed) (a .tag) _ (loop .loop .inv) (turn .loop-test .taken)
+    (placed .place-of .ensures) in
+    record {
+      few = omega (arith, turn .loop-test .taken);
+      left = left ∙ slot-other (a .image .now) (a .groups) (a .tag) _ (start .pre .0) _ line (c .if2 .left);
+    }
 
-cast-line-2 : tie.Need-cast-line-2
-cast-line-2 c = search needs
-
-add-line-4 : tie.Need-add-line-4
-add-line-4 c = search needs
-
-mul-read-slot-line-2 : tie.Need-mul-read-slot-line-2
-mul-read-slot-line-2 c = search needs
-
-read-slot-line-requires-2 : tie.Need-read-slot-line-requires-2
-read-slot-line-requires-2 c κs = search needs
-
-enum-known-held-2 : tie.Need-enum-known-held-2
-enum-known-held-2 c = search needs
-
-enum-told-2 : tie.Need-enum-told-2
-enum-told-2 c = search needs
-
-malformed-requires-2 : tie.Need-malformed-requires-2
-malformed-requires-2 c κs = search needs
-
-returns-4 : tie.Need-returns-4
+returns-4 : tie.Need-returns-4 Inv-loop μ-loop
 returns-4 c =
-    let read = c .before .before .before in
-    let told = read .before .before .before .before in
-    let before = told .before .before in
-    let start = before .before .before .before .before in
-    let a = start .args in
-    let line = line-reads tagMeaning slotLine (a .image .now) _ _ (before .read-slot-line .ensures) (told .held .given .1) refl in
-    c .malformed2 .ensures
-    ∙ sym (second-malformed (a .image .now) (a .start) (a .end) (a .seed) (a .tag) (a .groups) (start .pre .0) (before .before .before .if1 .left) _ (before .before .place-of .ensures) _ line (read .before .before .if2 .left) _ (read .before .place-of2 .ensures)
-    (line-reads tagMeaning slotLine (a .image .now) _ _ (read .read-slot-line2 .ensures) (c .before .enum-told2 .given .1) refl))
-
-returns-5 : tie.Need-returns-5
-returns-5 c =
-    let read = c .before .before .before .before in
-    let told = read .before .before .before .before in
-    let before = told .before .before in
-    let start = before .before .before .before .before in
-    let a = start .args in
-    let line = line-reads tagMeaning slotLine (a .image .now) _ _ (before .read-slot-line .ensures) (told .held .given .1) refl in
-    sym (second-holds (a .image .now) (a .start) (a .end) (a .seed) (a .tag) (a .groups) (start .pre .0) (before .before .before .if1 .left) _ (before .before .place-of .ensures) _ line (read .before .before .if2 .left) _ (read .before .place-of2 .ensures)
-    (line-reads tagMeaning slotLine (a .image .now) _ _ (read .read-slot-line2 .ensures) (c .before .before .held2 .given .1) refl ∙ ap some (c .if3 .taken)))
-
-returns-6 : tie.Need-returns-6
-returns-6 c =
-    let read = c .before .before .before .before in
-    let told = read .before .before .before .before in
-    let before = told .before .before in
-    let start = before .before .before .before .before in
-    let a = start .args in
-    let line = line-reads tagMeaning slotLine (a .image .now) _ _ (before .read-slot-line .ensures) (told .held .given .1) refl in
-    sym (neither-holds (a .image .now) (a .start) (a .end) (a .seed) (a .tag) (a .groups) (start .pre .0) (before .before .before .if1 .left) _ (before .before .place-of .ensures) _ line (read .before .before .if2 .left) _ (read .before .place-of2 .ensures) _
-    (line-reads tagMeaning slotLine (a .image .now) _ _ (read .read-slot-line2 .ensures) (c .before .before .held2 .given .1) refl)
-    (c .if3 .left))
+    let loop = c .before in
+    let a = loop .before .before .before .args in
+    let inv = loop .loop .inv in
+    sym (inv .left ∙ slots-done (a .image .now) (a .start) (a .end - a .start) (a .seed) (a .tag) (loop .loop .choice) (c .loop-test .left))
 
 pub in-slots-spec : {M : Type 1} → statement M
 in-slots-spec =
     tie.close
     (tie.spec
+    Inv-loop
+    μ-loop
     returns
     sub-n
+    loop-holds
     place-of-requires
-    add-first
+    add-slot
     add-line
     cast-line
     add-line-2
@@ -159,16 +162,7 @@ in-slots-spec =
     malformed-requires
     returns-2
     returns-3
-    place-of-requires-2
-    add-second
-    add-line-3
-    cast-line-2
-    add-line-4
-    mul-read-slot-line-2
-    read-slot-line-requires-2
-    enum-known-held-2
-    enum-told-2
-    malformed-requires-2
-    returns-4
-    returns-5
-    returns-6)
+    add-choice
+    loop-less
+    loop-again
+    returns-4)

@@ -1,7 +1,7 @@
 -- `lookup::lookup` meets its contract: an image that does not open is refused so, and in one that does the tag's group decides.
 -- Condition 2 follows from the equation. Assumes nothing.
 use borrow.Author.Needs.{needs}
-use mathlib.Core.Path.{_≡_, sym, _∙_, ap}
+use mathlib.Core.Path.{sym, _∙_, ap}
 use Rattle.opening.specs.Answer.{openedOutcome}
 use Rattle.opening.specs.OpeningLaws.{opening-answered}
 use Rattle.lookup.specs.StepsLaws.{lookup-unopened, lookup-opened}

@@ -1,6 +1,5 @@
 -- `opening::faulty` meets its contract: each branch is one of the ways in which a group is faulty, or none is left.
 -- Assumes nothing.
-use borrow.Author.Needs.{needs}
 use mathlib.Core.Path.{sym}
 use native.Mathlib.Omega.{arith}
 use Rattle.image.specs.FaultLaws.{faulty-falls, faulty-large, faulty-first, faulty-of-fair}

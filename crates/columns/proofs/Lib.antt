@@ -1,0 +1,3 @@
+pub mod Bytes
+pub mod Spaces
+pub mod Numbers

@@ -1,0 +1,4 @@
+pub mod Columns
+pub mod ColumnsLaws
+pub mod Word
+pub mod Answer

@@ -1,0 +1,141 @@
+-- `text::read_tag_lines` meets its contract: each line that the loop has passed is a tag's, and its tag is stored where there is
+-- a cell for it. Assumes nothing.
+use borrow.Author.Needs.{needs}
+use mathlib.Core.Path.{_≡_, sym}
+use mathlib.Core.Logic.{inl, inr, ⊎-elim}
+use mathlib.Core.List.{List}
+use Prim.Native.Nat.{ℕ, _+_, _*_, _-_}
+use native.Mathlib.Omega.{arith}
+use lib.ListN.{take, drop}
+use lib.Dec.{ltb}
+use Rattle.refusal.specs.Limits.{tagEnd}
+use Rattle.lists.specs.SearchLaws.{searched-found, searched-done}
+use Rattle.text.specs.declared.Tag.{Tag}
+use Rattle.text.specs.Answer.{tagMeaning}
+use Rattle.text.specs.Line.{lineAt, tagOf, within}
+use Rattle.text.specs.TagLines.{tagIn, noTagFrom}
+use Rattle.text.specs.TagLinesLaws.{line-no-tag}
+use Rattle.text.proofs.Parts.{part-whole}
+use Rattle.text.proofs.Examined.{Examined, examined-start, examined-turn}
+use Rattle.text.proofs.read_tag_lines.Statement.{statement}
+use Rattle.text.proofs.read_tag_lines.Tie as tie
+
+abbrev Inv-loop : tie.InvT-loop
+Inv-loop bytes from end cells₀ k₀ cells k = Examined bytes from end cells₀ cells k
+
+abbrev μ-loop : tie.MeasureT-loop
+μ-loop bytes from end cells₀ k₀ cells k = end - k
+
+-- What the reader of a line, lent its part of the text, says of line k.
+line-reads : (bytes : List ℕ) (k : ℕ) {answer case : Tag}
+    → tagMeaning answer ≡ within (λ t. ltb t tagEnd) (tagOf (take (11 * k + 11 - 11 * k) (drop (11 * k) bytes))) → answer ≡ case
+    → tagIn (lineAt k bytes) ≡ tagMeaning case
+unfolding tagIn lineAt
+line-reads bytes k promised told = rw (← told, ← part-whole bytes (11 * k) 11) (sym promised)
+
+loop-holds : tie.Need-loop-holds Inv-loop μ-loop
+loop-holds c = examined-start _ _ _ _ (c .before .pre .0 .0)
+
+mul-at : tie.Need-mul-at Inv-loop μ-loop
+mul-at c = search needs
+
+add-after : tie.Need-add-after Inv-loop μ-loop
+add-after c = search needs
+
+sub-tag-in : tie.Need-sub-tag-in Inv-loop μ-loop
+sub-tag-in c = search needs
+
+part-tag-in-start : tie.Need-part-tag-in-start Inv-loop μ-loop
+part-tag-in-start c = search needs
+
+part-tag-in-end : tie.Need-part-tag-in-end Inv-loop μ-loop
+part-tag-in-end c = search needs
+
+tag-in-requires : tie.Need-tag-in-requires Inv-loop μ-loop
+tag-in-requires c κs = search needs
+
+enum-known-t : tie.Need-enum-known-t Inv-loop μ-loop
+enum-known-t c = search needs
+
+enum-told : tie.Need-enum-told Inv-loop μ-loop
+enum-told c = search needs
+
+returns : tie.Need-returns Inv-loop μ-loop
+returns c =
+    let read = c .before .before in
+    let loop = read .before .before .before in
+    let start = loop .before .before in
+    let a = start .args in
+    let bytes = a .bytes .now in
+    let inv = loop .loop .inv in
+    let reads = line-reads bytes (loop .loop .k) (read .tag-in .ensures) (c .enum-told .given .1) in
+    let found =
+    searched-found (noTagFrom (a .from) bytes) (a .from) (a .end) _ (inv .searched) (read .before .before .loop-test .taken)
+    (line-no-tag (a .from) bytes (loop .loop .k) (inv .searched .above) reads) in
+    (sym found, inv .cells-are)
+
+sub-if1 : tie.Need-sub-if1 Inv-loop μ-loop
+sub-if1 c = search needs
+
+sub-cells : tie.Need-sub-cells Inv-loop μ-loop
+sub-cells c = search needs
+
+mul-cells : tie.Need-mul-cells Inv-loop μ-loop
+mul-cells c = search needs
+
+element-write-cells : tie.Need-element-write-cells Inv-loop μ-loop
+element-write-cells c = search needs
+
+add-k : tie.Need-add-k Inv-loop μ-loop
+add-k c = search needs
+
+loop-less : tie.Need-loop-less Inv-loop μ-loop
+loop-less c = search needs
+
+loop-again : tie.Need-loop-again Inv-loop μ-loop
+loop-again c =
+    let told = c .before .before in
+    let read = told .before .before in
+    let loop = read .before .before .before in
+    let start = loop .before .before in
+    let a = start .args in
+    let bytes = a .bytes .now in
+    let inv = loop .loop .inv in
+    let reads = line-reads bytes (loop .loop .k) (read .tag-in .ensures) (told .t .given .1) in
+    let long = start .pre .1 in
+    examined-turn inv (read .before .before .loop-test .taken) reads
+    (⊎-elim (λ q. inl (omega (arith, q .0 .taken, long), q .1)) (λ q. inr (omega (arith, q .0 .left, long), q .1)) (c .if1 .came))
+
+returns-2 : tie.Need-returns-2 Inv-loop μ-loop
+returns-2 c =
+    let loop = c .before in
+    let a = loop .before .before .args in
+    let inv = loop .loop .inv in
+    let end : loop .loop .k ≡ a .end = omega (arith, inv .searched .within, c .loop-test .left) in
+    let nowhere = searched-done (noTagFrom (a .from) (a .bytes .now)) (a .from) (a .end) _ (inv .searched) (c .loop-test .left) in
+    (sym nowhere, rw end at (inv .cells-are))
+
+pub read-tag-lines-spec : {M : Type 1} → statement M
+read-tag-lines-spec =
+    tie.close
+    (tie.spec
+    Inv-loop
+    μ-loop
+    loop-holds
+    mul-at
+    add-after
+    sub-tag-in
+    part-tag-in-start
+    part-tag-in-end
+    tag-in-requires
+    enum-known-t
+    enum-told
+    returns
+    sub-if1
+    sub-cells
+    mul-cells
+    element-write-cells
+    add-k
+    loop-less
+    loop-again
+    returns-2)
