@@ -4,20 +4,23 @@ use mathlib.Core.Logic.{_⊎_, inl, inr}
 use mathlib.Core.Bool.{false, not}
 use mathlib.Core.List.{List, [], _∷_}
 use mathlib.Core.Option.{Option, none, some, Option·getD}
-use Prim.Native.Nat.{ℕ, zero, suc, _+_, _≤_, _<_}
+use Prim.Native.Nat.{ℕ, zero, suc, _+_, _-_, _≤_, _<_}
 use native.Mathlib.Omega.{arith}
+use native.Mathlib.Decide.{decLt}
 use native.Mathlib.Nat.{eq-or-lt-of-le}
 use lib.ListN.{length, getD, set, length-set}
 use lib.Seq.{getD-set-same, getD-set-other}
 use borrow.Author.Tests.{lt-ltb, le-ltb}
-use Rattle.refusal.specs.Limits.{seedMax, groupsMax}
+use Rattle.refusal.specs.Limits.{seedMax, tagsMax, groupsMax}
 use Rattle.refusal.specs.Outcome.{answered, refused}
 use Rattle.lists.specs.First.{first, isSome}
-use Rattle.lists.specs.FirstLaws.{first-none, first-out, first-more, first-cong}
+use Rattle.lists.specs.FirstLaws.{first-some, first-none, first-out, first-more, first-cong}
 use Rattle.refusal.specs.Checks.{inOrder}
 use Rattle.refusal.specs.ChecksLaws.{inOrder-append}
 use Rattle.text.specs.Line.{lineAt, groupLine, slotLine}
 use Rattle.text.specs.LineLaws.{group-only}
+use Rattle.text.specs.TagLines.{tagIn, noTagFrom, passed, tagsStored}
+use Rattle.text.specs.TagLinesLaws.{tag-slot, line-before, line-at, stored-length, stored-holds}
 use Rattle.image.specs.View.{View, viewOf, groupsIn, startIn, seedIn, endIn, slotLineIn, slotIn, faulty}
 use Rattle.image.specs.Checking.{openingChecks, malformedIn, misplaced, repeated, checkingChecks, checkingOf}
 use Rattle.image.specs.FaultLaws.{fair-of-faulty}
@@ -27,7 +30,7 @@ use Rattle.opening.specs.OpeningLaws.{opening-refused, opening-passes, Opens, o
 use Rattle.slots.specs.Cells.{cellsView, Legal, Regular}
 use Rattle.slots.specs.CellsLaws.{cells-count, cells-groups, cells-start, cells-seed, cells-slot, cells-end}
 use Rattle.slots.specs.Fault.{faultOf, faultBefore}
-use Rattle.checking.specs.Steps.{numberChecks, faultyAt, Filled, GroupsStored, TagsStored, faultOutcome}
+use Rattle.checking.specs.Steps.{numberChecks, faultyAt, linesBefore, Filled, GroupsStored, TagsStored, faultOutcome}
 
 -- One cell more is filled.
 pub filled-none : (number : ℕ → ℕ) (from size : ℕ) (cells : List ℕ) → length cells ≡ size → Filled number from from size cells
@@ -100,10 +103,36 @@ module _ (image : List ℕ) {count groups : ℕ} (opens : Opens image count grou
         end = getD-set-other starts g groups start 0 (λ same. omega arith) ∙ stored .end;
       }
 
-  -- The tag that a slot's line states.
-  pub slot-states : (j : ℕ) {t : ℕ} → slotLine (lineAt (1 + groups + j) image) ≡ some t → slotIn (viewOf image) j ≡ t
+  -- Behind the group lines the first line that is no tag's is the first malformed one,
+  pub slot-lines : first (malformedIn (viewOf image)) (1 + groups) ≡ none
+      → first (noTagFrom (1 + groups) image) (1 + groups + count) ≡ first (malformedIn (viewOf image)) (1 + groups + count)
+  slot-lines before = first-cong (noTagFrom (1 + groups) image) (malformedIn (viewOf image)) (1 + groups + count) (λ k lt. line k (decLt k (1 + groups)))
+    where
+      line : (k : ℕ) → Dec (k < 1 + groups) → noTagFrom (1 + groups) image k ≡ malformedIn (viewOf image) k
+      line k (yes lt) =
+          line-before (1 + groups) image k lt ∙ sym (first-none (malformedIn (viewOf image)) (1 + groups) before k lt)
+      line k (no ge) =
+          line-at (1 + groups) image k (omega (arith, ge))
+          ∙ sym (slot-line-tested k (omega (arith, ge)) (tagIn (lineAt k image)) (sym (tag-slot (lineAt k image))))
+
+  -- and the tags of the lines before it are those of their slots.
+  pub slots-stored : (before : List ℕ) {o : Option ℕ} → length before ≡ tagsMax → o ≡ first (noTagFrom (1 + groups) image) (1 + groups + count)
+      → TagsStored (viewOf image) groups (linesBefore o (1 + groups + count)) (tagsStored (passed o (1 + groups) (1 + groups + count)) (1 + groups) image before)
   unfolding slotIn slotLineIn viewOf
-  slot-states j e = rw (opens .groups-is, e)
+  slots-stored before {o} long found =
+      let lines = linesBefore o (1 + groups + count) in
+      let few : lines ≤ 1 + groups + count = within o found in
+      let fits : lines - (1 + groups) ≤ length before = omega (arith, opens .count-legal) in
+      record {
+        long = stored-length (1 + groups) image before (lines - (1 + groups)) ∙ long;
+        holds = λ j lt.
+            stored-holds (1 + groups) image before (lines - (1 + groups)) fits j (omega arith)
+            ∙ rw (opens .groups-is, tag-slot (lineAt (1 + groups + j) image));
+      }
+    where
+      within : (o : Option ℕ) → o ≡ first (noTagFrom (1 + groups) image) (1 + groups + count) → linesBefore o (1 + groups + count) ≤ 1 + groups + count
+      within none e = omega arith
+      within (some k) e = omega (arith, (first-some (noTagFrom (1 + groups) image) (1 + groups + count) (sym e)) .below)
 
   -- A seed is in its range.
   seed-legal : (g : ℕ) → seedIn (viewOf image) g ≤ seedMax

@@ -9,7 +9,6 @@ use slots::SlotFault;
 use slots::TAG_CELLS;
 use text::LINE_LENGTH;
 use text::Pair;
-use text::Tag;
 ghost use mathlib.Core.Path.{_≡_};
 ghost use mathlib.Core.Option.{none};
 ghost use Prim.Native.Nat.{_+_, _≤_};
@@ -105,16 +104,8 @@ fn read_slot_lines(image: &[u8], count: u32, groups: u32, tags: &mut [u32; TAG_C
     ensures cells { λ r. ⌜ TagsStored (viewOf (now (image .entry))) groups (linesBefore (firstMeaning r) (1 + groups + count))
         (now (tags .exit)) ⌝ }
 {
-    let before = 1 + groups as usize;
-    let mut j = 0;
-    while j < count as usize {
-        let Tag::Number(tag) = text::read_slot_line(image, LINE_LENGTH * (before + j)) else {
-            return First::At(before + j);
-        };
-        tags[j] = tag;
-        j += 1;
-    }
-    First::Nowhere
+    let from = 1 + groups as usize;
+    text::read_tag_lines(image, from, from + count as usize, tags)
 }
 
 // The checks behind those of the lines, over the numbers that the lines state: 13, 14 and 15.

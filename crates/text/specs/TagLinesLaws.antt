@@ -1,6 +1,6 @@
 -- Lines of one tag each, one by one, and the cells that their tags are stored in, cell by cell. Assumes nothing.
 use mathlib.Core.Path.{_≡_, refl, sym, _∙_, ap}
-use mathlib.Core.Bool.{true, false}
+use mathlib.Core.Bool.{true, false, not}
 use mathlib.Core.List.{List, [], _∷_, _++_}
 use mathlib.Core.Option.{none, some, Option·getD}
 use Prim.Native.Nat.{ℕ, zero, suc, _+_, _-_, _≤_, _<_, min}
@@ -28,6 +28,10 @@ module _ (from : ℕ) (bytes : List ℕ) (k : ℕ) where
   pub line-before : k < from → noTagFrom from bytes k ≡ false
   unfolding noTagFrom
   line-before lt = rw (lt-leb from k lt)
+
+  pub line-at : from ≤ k → noTagFrom from bytes k ≡ not (isSome (tagIn (lineAt k bytes)))
+  unfolding noTagFrom
+  line-at le = rw (le-leb from k le)
 
   pub line-tag : {t : ℕ} → from ≤ k → tagIn (lineAt k bytes) ≡ some t → noTagFrom from bytes k ≡ false
   unfolding noTagFrom isSome
