@@ -18,7 +18,7 @@ use Rattle.hash.specs.Formula.{groupOf}
 use Rattle.image.specs.View.{View, viewOf, groupsIn, startIn, endIn, slotLineIn, slotIn}
 use Rattle.image.specs.Checking.{openingChecks, checkingChecks, checkingOf}
 use Rattle.image.specs.Lookup.{Found, number, unknown, groupChecks, lookupChecks, atSlot, lookupInGroup, lookupOf}
-use Rattle.image.specs.CheckedLookup.{count-most}
+use Rattle.image.specs.CheckedLookupLaws.{count-most}
 use Rattle.image.specs.LookupLaws.{lookup-any}
 use Rattle.building.specs.Building.{buildingChecks, buildingOf}
 use Rattle.building.specs.BuildingLaws.{answered-most}

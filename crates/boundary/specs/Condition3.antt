@@ -2,7 +2,7 @@
 use mathlib.Core.List.{List}
 use Prim.Native.Nat.{ℕ}
 use lib.ListN.{length}
-use Rattle.from_text.specs.Promise.{TextCondition3}
+use Rattle.from_text.specs.Condition3.{TextCondition3}
 use Rattle.boundary.specs.Answer64.{outcome64}
 
 -- Condition 3, for the list that a text states: of the 64-bit number r that the call answers, and of the bytes left in the image.

@@ -17,8 +17,8 @@ use Rattle.image.specs.View.{View, viewOf, countIn, groupsIn, startIn, endIn, s
 use Rattle.image.specs.Checking.{openingChecks, malformedIn, misplaced, repeated, checkingChecks, checkingOf}
 use Rattle.image.specs.FaultLaws.{fair-of-faulty}
 use Rattle.image.specs.Lookup.{Found, number, unknown, groupChecks, lookupChecks, atSlot, lookupInGroup, lookupOf}
-use Rattle.opening.specs.Opening.{openingOf}
-use Rattle.opening.specs.OpeningLaws.{Opens, opening-answered}
+use Rattle.opening.specs.Opening.{openingOf, Opens}
+use Rattle.opening.specs.OpeningLaws.{opening-answered}
 use Rattle.refusal.specs.PlaceLaws.{PlaceBelow, below-checks, below-cond, metAt-below, met-below, first-below}
 
 -- An image has at most 1 + 512 + 4,096 lines.

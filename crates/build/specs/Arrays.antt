@@ -9,7 +9,7 @@ use Rattle.lists.specs.First.{first}
 use Rattle.building.specs.Members.{members, startOf}
 use Rattle.building.specs.Parts.{partStart, partOf, Parts}
 use Rattle.building.specs.Building.{tooLarge}
-use Rattle.building.specs.BuildingLaws.{Admitted}
+use Rattle.building.specs.Admitted.{Admitted}
 
 -- Each group's part of the ordered tags begins at its start and has its tags.
 pub record Sorted (groups : ℕ) (tags ordered ends : List ℕ) : Type 0 where

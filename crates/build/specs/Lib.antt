@@ -1,4 +1,4 @@
 pub mod Answer
 pub mod Arrays
 pub mod ArraysLaws
-pub mod Promise
+pub mod PromiseLaws

@@ -12,7 +12,7 @@ ghost use Rattle.refusal.specs.Outcome.{refused};
 ghost use Rattle.refusal.specs.Reason.{reasonNumber};
 ghost use Rattle.image.specs.Sheet.{imageLength};
 ghost use Rattle.building.specs.Building.{buildingOf, bufferAfter};
-ghost use Rattle.building.specs.BuildingLaws.{Admitted};
+ghost use Rattle.building.specs.Admitted.{Admitted};
 ghost use Rattle.condition3.specs.Condition3.{Condition3};
 ghost use Rattle.build.specs.Answer.{buildOutcome};
 ghost use Rattle.build.specs.Arrays.{Buildable};

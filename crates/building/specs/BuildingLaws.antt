@@ -22,6 +22,7 @@ use Rattle.image.specs.Sheet.{imageLength}
 use Rattle.image.specs.SheetLaws.{bytes-length, image-longest}
 use Rattle.building.specs.Members.{members}
 use Rattle.building.specs.NumberLaws.{AllFill}
+use Rattle.building.specs.Admitted.{Admitted}
 use Rattle.building.specs.Building.{sheetOf, seedTaken, choicesTaken, imageOf, tooLarge, seedless, buildingChecks, buildingOf, written, bufferAfter}
 
 -- The image that building writes has the length that building answers.
@@ -54,14 +55,6 @@ module _ (tags : List ℕ) (groups limit room : ℕ) where
           unfolding buildingOf buildingChecks limitCheck ascendingCheck inOrder met metAt
           building-short short =
               rw (some-groups, legal, le-ltb tagsMax (length tags) few, up, lt-ltb room (imageLength groups (length tags)) short)
-
--- The checks 8, 4, 5, 6 and 9 pass.
-pub record Admitted (tags : List ℕ) (groups limit room : ℕ) : Type 0 where
-  pub groups-legal : outside 1 groupsMax groups ≡ false
-  pub limit-legal : outside 1 limitMax limit ≡ false
-  pub count-legal : length tags ≤ tagsMax
-  pub ascending : ascendingCheck tags .1 ≡ none
-  pub fits : imageLength groups (length tags) ≤ room
 
 module _ {tags : List ℕ} {groups limit room : ℕ} (a : Admitted tags groups limit room) where
   pub building-large : {g : ℕ} → first (tooLarge groups tags) groups ≡ some g → buildingOf tags groups limit room ≡ refused 10 g

@@ -13,7 +13,8 @@ use Rattle.hash.specs.Formula.{groupOf}
 use Rattle.hash.specs.FormulaLaws.{group-below}
 use Rattle.lists.specs.Occurs.{occurs, distinct}
 use Rattle.lists.specs.OccursLaws.{occurs-here, occurs-there, occurs-cases, occurs-not, distinct-head, distinct-tail, distinct-cons}
-use Rattle.group.specs.AscendingLaws.{Ascending, ascending-above}
+use Rattle.group.specs.Ascending.{Ascending}
+use Rattle.group.specs.AscendingLaws.{ascending-above}
 use Rattle.building.specs.Members.{select, members, startOf}
 
 -- A tag that passes the test is selected,

@@ -1,2 +1,2 @@
-pub mod Built
-pub mod Theorem
+pub mod BuiltLaws
+pub mod Condition3Theorem

@@ -25,8 +25,8 @@ use Rattle.image.specs.View.{View, viewOf, groupsIn, startIn, seedIn, endIn, sl
 use Rattle.image.specs.Checking.{openingChecks, malformedIn, misplaced, repeated, checkingChecks, checkingOf}
 use Rattle.image.specs.FaultLaws.{fair-of-faulty}
 use Rattle.image.specs.SameNumbersLaws.{SameNumbers, same-faulty, same-misplaced, same-repeated}
-use Rattle.opening.specs.Opening.{openingOf}
-use Rattle.opening.specs.OpeningLaws.{opening-refused, opening-passes, Opens, opening-answered}
+use Rattle.opening.specs.Opening.{openingOf, Opens}
+use Rattle.opening.specs.OpeningLaws.{opening-refused, opening-passes, opening-answered}
 use Rattle.slots.specs.Cells.{cellsView, Legal, Regular}
 use Rattle.slots.specs.CellsLaws.{cells-count, cells-groups, cells-start, cells-seed, cells-slot, cells-end}
 use Rattle.slots.specs.Fault.{faultOf, faultBefore}

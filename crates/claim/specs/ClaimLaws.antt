@@ -11,7 +11,7 @@ use Rattle.lists.specs.Occurs.{occurs}
 use Rattle.image.specs.Lookup.{lookupOf}
 use Rattle.building.specs.Building.{imageOf, buildingOf, bufferAfter}
 use Rattle.building.specs.BuildingLaws.{image-length, buffer-written, answered-size}
-use Rattle.built.specs.Theorem.{image-written, looked-up}
+use Rattle.built.specs.Condition3Theorem.{image-written, looked-up}
 use Rattle.claim.specs.Claim.{foundIn, claimOf}
 
 module _ (tags : List ℕ) (groups limit : ℕ) (before : List ℕ) (tag : ℕ) where

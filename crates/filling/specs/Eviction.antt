@@ -6,8 +6,7 @@ use mathlib.Core.Bool.{Bool}
 use mathlib.Core.List.{List, map}
 use lib.Dec.{eqb}
 use lib.ListN.{length, getD, set, take, replicate}
-use Rattle.filling.specs.Filling.{Key, placeBy}
-use Rattle.filling.specs.FillingLaws.{EachCandidate}
+use Rattle.filling.specs.Filling.{Key, placeBy, EachCandidate}
 
 -- The state between two moves. The keys with indices 0 to `seated` are in, and each has its place but one, the moving key: the one
 -- being inserted, or the one evicted last.

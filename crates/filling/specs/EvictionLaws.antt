@@ -21,8 +21,8 @@ use lib.Dec.{eqb, ltb}
 use lib.ListN.{length, getD, set, take, replicate, length-set, length-map, length-replicate, getD-replicate, List·getD-map, List·getD-eq-default}
 use lib.Seq.{getD-set-same, getD-set-other, set-out, getD-take, length-take-le}
 use borrow.Author.Tests.{eqb-true, eqb-false, eq-eqb, ltb-true, ltb-false}
-use Rattle.filling.specs.Filling.{Key, placeBy, Fills}
-use Rattle.filling.specs.FillingLaws.{placeAt, EachCandidate, fills-apart, apart-fills}
+use Rattle.filling.specs.Filling.{Key, placeBy, Fills, EachCandidate}
+use Rattle.filling.specs.FillingLaws.{placeAt, fills-apart, apart-fills}
 use Rattle.filling.specs.Eviction.{State, allowance, placeUnder, goal, occupant, start, seatKey, evictKey, Reached, started, seats, evicts, GivesUp, sequenceOf}
 
 -- Two numbers are equal or not.

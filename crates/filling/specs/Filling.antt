@@ -1,10 +1,10 @@
 -- Choice sequences, and when one fills. It speaks of keys with two candidate places each, whatever the places come from, and of
 -- any number of places. Assumes nothing.
-use Prim.Native.Nat.{ℕ}
+use Prim.Native.Nat.{ℕ, _<_}
 use mathlib.Core.Path.{_≡_}
 use mathlib.Core.Bool.{Bool, true, false}
 use mathlib.Core.List.{List, [], _∷_}
-use lib.ListN.{length}
+use lib.ListN.{length, getD}
 use Rattle.lists.specs.Occurs.{distinct}
 
 -- A key: its first and its second candidate place. They may be equal, and two keys may have the same pair.
@@ -27,3 +27,7 @@ chosen (key ∷ keys) (choice ∷ choices) = placeBy choice key ∷ chosen keys 
 pub record Fills (keys : List Key) (choices : List Bool) : Type 0 where
   pub whole : length choices ≡ length keys
   pub apart : distinct (chosen keys choices) ≡ true
+
+-- Each candidate place of each key is so.
+abbrev pub EachCandidate : (ℕ → Type 0) → List Key → Type 0
+EachCandidate P keys = (i : ℕ) → i < length keys → (choice : Bool) → P (placeBy choice (getD keys i (0, 0)))

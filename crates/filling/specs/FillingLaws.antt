@@ -7,7 +7,7 @@ use native.Mathlib.Omega.{arith}
 use lib.ListN.{length, getD}
 use Rattle.lists.specs.Occurs.{occurs}
 use Rattle.lists.specs.OccursLaws.{pigeonhole, occurs-getD, distinct-getD, getD-distinct, onto}
-use Rattle.filling.specs.Filling.{Key, placeBy, chosen, Fills}
+use Rattle.filling.specs.Filling.{Key, placeBy, chosen, Fills, EachCandidate}
 
 -- The place that the key with index i takes.
 abbrev pub placeAt : List Key → List Bool → ℕ → ℕ
@@ -16,10 +16,6 @@ placeAt keys cs i = placeBy (getD cs i false) (getD keys i (0, 0))
 -- Keys with different indices take different places.
 abbrev pub Apart : List Key → List Bool → Type 0
 Apart keys cs = (i j : ℕ) → i < length keys → j < length keys → placeAt keys cs i ≡ placeAt keys cs j → i ≡ j
-
--- Each candidate place of each key is so.
-abbrev pub EachCandidate : (ℕ → Type 0) → List Key → Type 0
-EachCandidate P keys = (i : ℕ) → i < length keys → (choice : Bool) → P (placeBy choice (getD keys i (0, 0)))
 
 -- One place is chosen for each key.
 pub chosen-length : (keys : List Key) (cs : List Bool) → length cs ≡ length keys → length (chosen keys cs) ≡ length keys

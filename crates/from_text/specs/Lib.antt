@@ -1,2 +1,3 @@
-pub mod Promise
+pub mod Condition3
+pub mod PromiseLaws
 pub mod PlaceLaws

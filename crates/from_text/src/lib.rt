@@ -7,7 +7,7 @@ ghost use mathlib.Core.Path.{_≡_};
 ghost use lib.ListN.{length};
 ghost use Rattle.build.specs.Answer.{buildOutcome};
 ghost use Rattle.building.specs.FromText.{buildingFromText, bufferFromText};
-ghost use Rattle.from_text.specs.Promise.{TextCondition3};
+ghost use Rattle.from_text.specs.Condition3.{TextCondition3};
 
 // Building from a list text, for any text and any buffer. A text above 65,527 bytes is refused unexamined.
 pub fn build_from_text(text: &[u8], buffer: &mut [u8]) -> BuildAnswer

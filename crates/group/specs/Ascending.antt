@@ -1,5 +1,5 @@
 -- The checks that a list of tags has to pass, shared by the operations that take one. Assumes nothing.
-use Prim.Native.Nat.{ℕ, zero, suc}
+use Prim.Native.Nat.{ℕ, zero, suc, _<_}
 use mathlib.Core.Bool.{Bool, false}
 use mathlib.Core.List.{List}
 use lib.Dec.{leb}
@@ -20,3 +20,7 @@ notAbove tags (suc i) = leb (getD tags (suc i) 0) (getD tags i 0)
 -- "6: not strictly ascending, at the first index whose tag is not above the one before."
 unfoldable pub ascendingCheck : List ℕ → Check
 ascendingCheck tags = (6, first (notAbove tags) (length tags))
+
+-- "strictly ascending"
+abbrev pub Ascending : List ℕ → Type 0
+Ascending tags = (i : ℕ) → suc i < length tags → getD tags i 0 < getD tags (suc i) 0

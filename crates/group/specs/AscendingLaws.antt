@@ -11,11 +11,7 @@ use borrow.Author.Tests.{leb-false, le-leb, lt-leb, ltb-true, ltb-false}
 use Rattle.lists.specs.FirstLaws.{first-none, first-out}
 use Rattle.lists.specs.Occurs.{distinct}
 use Rattle.lists.specs.OccursLaws.{getD-distinct}
-use Rattle.group.specs.Ascending.{notAbove, ascendingCheck}
-
--- "strictly ascending"
-abbrev pub Ascending : List ℕ → Type 0
-Ascending tags = (i : ℕ) → suc i < length tags → getD tags i 0 < getD tags (suc i) 0
+use Rattle.group.specs.Ascending.{notAbove, ascendingCheck, Ascending}
 
 -- Check 6 is not met exactly where the list is strictly ascending.
 pub ascending-of-check : (tags : List ℕ) → ascendingCheck tags .1 ≡ none → Ascending tags

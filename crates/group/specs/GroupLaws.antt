@@ -10,8 +10,7 @@ use Rattle.lists.specs.FirstLaws.{some-of-isSome, first-some, first-none, first
 use Rattle.lists.specs.Occurs.{distinct}
 use Rattle.hash.specs.Formula.{placeOf}
 use Rattle.hash.specs.FormulaLaws.{place-below}
-use Rattle.filling.specs.Filling.{placeBy, chosen, Fills}
-use Rattle.filling.specs.FillingLaws.{EachCandidate}
+use Rattle.filling.specs.Filling.{placeBy, chosen, Fills, EachCandidate}
 use Rattle.filling.specs.Word.{choiceNumber}
 use Rattle.filling.specs.Least.{NotAfter, least, feasible}
 use Rattle.filling.specs.LeastLaws.{least-fills, least-least, least-only, feasible-fills, infeasible-none, fills-feasible, none-infeasible}

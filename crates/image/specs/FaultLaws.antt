@@ -13,13 +13,8 @@ use Rattle.lists.specs.BoolLaws.{both-of-and, neither-of-or}
 use Rattle.lists.specs.First.{first}
 use Rattle.lists.specs.FirstLaws.{first-some, first-none}
 use Rattle.image.specs.View.{View, countIn, groupsIn, startIn, endIn, faulty}
+use Rattle.image.specs.Fair.{Fair, LiesIn, AllFair}
 use Rattle.image.specs.Checking.{groupOfSlot}
-
--- What a group that is not faulty is.
-pub record Fair (g start next : ℕ) : Type 0 where
-  pub zero-first : g ≡ 0 → start ≡ 0
-  pub ascends : start ≤ next
-  pub small : next ≤ start + groupMax
 
 pub fair-of-faulty : (g start next : ℕ) → faulty g start next ≡ false → Fair g start next
 unfolding faulty
@@ -54,16 +49,6 @@ pub faulty-first : (start next : ℕ) → start ≤ next → next ≤ start + gr
 unfolding faulty
 faulty-first start next ascends small =
     rw (le-ltb next start ascends, le-ltb (start + groupMax) next small) (or-false (not (eqb start 0)))
-
--- Slot j lies in group g.
-pub record LiesIn (v : View) (j g : ℕ) : Type 0 where
-  pub group : g < groupsIn v
-  pub from : startIn v g ≤ j
-  pub below : j < endIn v g
-
--- No group is faulty.
-abbrev pub AllFair : View → Type 0
-AllFair v = (g : ℕ) → g < groupsIn v → Fair g (startIn v g) (endIn v g)
 
 -- A group ends where the next one starts, the last one at N.
 pub end-next : (v : View) (g : ℕ) → suc g < groupsIn v → endIn v g ≡ startIn v (suc g)

@@ -1,11 +1,13 @@
 pub mod Sheet
 pub mod SheetLaws
 pub mod View
+pub mod Holds
+pub mod Fair
 pub mod Checking
 pub mod Lookup
 pub mod LinesRead
 pub mod FaultLaws
-pub mod CheckedLookup
+pub mod CheckedLookupLaws
 pub mod LookupLaws
 pub mod Examples
 pub mod SameNumbersLaws

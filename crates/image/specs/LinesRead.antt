@@ -4,7 +4,7 @@ use mathlib.Core.Bool.{true}
 use mathlib.Core.Option.{some}
 use Prim.Native.Nat.{ℕ, suc, _<_}
 use Rattle.lists.specs.First.{isSome}
-use Rattle.refusal.specs.ChecksLaws.{Pass}
+use Rattle.refusal.specs.Checks.{Pass}
 use Rattle.hash.specs.Formula.{groupOf}
 use Rattle.image.specs.View.{View, groupsIn, startIn, endIn, slotLineIn, candidateIn}
 use Rattle.image.specs.Checking.{openingChecks}

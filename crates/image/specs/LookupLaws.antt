@@ -13,17 +13,18 @@ use Rattle.lists.specs.BoolLaws.{neither-of-or}
 use Rattle.refusal.specs.Outcome.{Outcome, answered}
 use Rattle.lists.specs.First.{metAt, isSome}
 use Rattle.lists.specs.FirstLaws.{some-of-isSome}
-use Rattle.refusal.specs.Checks.{inOrder}
-use Rattle.refusal.specs.ChecksLaws.{false-of-metAt, Pass, pass-append, agree-same, inOrder-agree, inOrder-append, inOrder-answered}
+use Rattle.refusal.specs.Checks.{inOrder, Pass}
+use Rattle.refusal.specs.ChecksLaws.{false-of-metAt, pass-append, agree-same, inOrder-agree, inOrder-append, inOrder-answered}
 use Rattle.hash.specs.Formula.{groupOf}
 use Rattle.hash.specs.FormulaLaws.{place-below}
 use Rattle.text.specs.Line.{lineAt, imageHeader, groupLine, slotLine}
 use Rattle.image.specs.View.{View, viewOf, countIn, groupsIn, startIn, seedIn, endIn, slotLineIn, slotIn, faulty, candidateIn}
 use Rattle.image.specs.Checking.{openingChecks}
 use Rattle.image.specs.Lookup.{Found, number, unknown, groupChecks, lookupChecks, atSlot, lookupInGroup, lookupOf}
-use Rattle.image.specs.FaultLaws.{Fair, fair-of-faulty}
+use Rattle.image.specs.Fair.{Fair}
+use Rattle.image.specs.FaultLaws.{fair-of-faulty}
 use Rattle.image.specs.LinesRead.{LinesRead, ownGroup, ownSlot}
-use Rattle.image.specs.CheckedLookup.{HoldsTag, SlotHolds}
+use Rattle.image.specs.Holds.{HoldsTag, SlotHolds}
 
 and-cond : (a b : Bool) → (a && b) ≡ cond a b false
 and-cond true b = refl

@@ -2,3 +2,4 @@ pub mod Answer
 pub mod Steps
 pub mod StepsLaws
 pub mod Condition2
+pub mod Condition2Laws

@@ -16,8 +16,8 @@ use Rattle.text.specs.Line.{lineAt, groupLine, slotLine}
 use Rattle.image.specs.View.{View, viewOf, countIn, groupsIn, startIn, seedIn, endIn, slotLineIn, slotIn, faulty, candidateIn}
 use Rattle.image.specs.Checking.{openingChecks}
 use Rattle.image.specs.Lookup.{Found, number, unknown, groupChecks, lookupChecks, atSlot, lookupInGroup, lookupOf}
-use Rattle.opening.specs.Opening.{openingOf}
-use Rattle.opening.specs.OpeningLaws.{opening-refused, opening-passes, Opens, opening-answered}
+use Rattle.opening.specs.Opening.{openingOf, Opens}
+use Rattle.opening.specs.OpeningLaws.{opening-refused, opening-passes, opening-answered}
 use Rattle.lookup.specs.Steps.{endOf, slotsOf, slotsFrom, groupOutcome}
 
 module _ (image : List ℕ) where

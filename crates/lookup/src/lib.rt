@@ -11,7 +11,7 @@ ghost use Rattle.refusal.specs.Limits.{tagsMax, groupsMax, seedMax};
 ghost use Rattle.hash.specs.Formula.{groupOf};
 ghost use Rattle.image.specs.View.{viewOf, groupsIn};
 ghost use Rattle.image.specs.Lookup.{lookupOf};
-ghost use Rattle.opening.specs.OpeningLaws.{Opens};
+ghost use Rattle.opening.specs.Opening.{Opens};
 ghost use Rattle.lookup.specs.Steps.{endOf, slotsOf, groupOutcome};
 ghost use Rattle.lookup.specs.Condition2.{Condition2};
 ghost use Rattle.lookup.specs.Answer.{lookupOutcome, endMeaning};

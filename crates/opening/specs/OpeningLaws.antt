@@ -7,7 +7,6 @@ use Prim.Native.Nat.{ℕ, _+_, _*_, _≤_, _<_}
 use lib.Dec.{eqb}
 use lib.ListN.{length}
 use borrow.Author.Tests.{le-ltb, lt-ltb, eq-eqb, ne-eqb, eqb-true, not-false}
-use Rattle.refusal.specs.Limits.{tagsMax, groupsMax}
 use Rattle.refusal.specs.Outcome.{Outcome, answered, refused}
 use Rattle.lists.specs.First.{metAt, isSome}
 use Rattle.lists.specs.FirstLaws.{some-of-isSome}
@@ -18,22 +17,13 @@ use Rattle.text.specs.LineLaws.{image-header-only}
 use Rattle.image.specs.Sheet.{imageLength}
 use Rattle.image.specs.View.{viewOf, countIn, groupsIn}
 use Rattle.image.specs.Checking.{openingChecks}
-use Rattle.opening.specs.Opening.{openingOf}
+use Rattle.opening.specs.Opening.{openingOf, Opens}
 
 -- A refusal of the opening is a refusal of everything that begins with it.
 pub opening-refused : {A : Type 0} (image : List ℕ) {number place : ℕ} → openingOf image ≡ refused number place
     → (o : Outcome A) → inOrder (openingChecks (viewOf image)) o ≡ refused number place
 unfolding openingOf
 opening-refused image e o = refused-inOrder (openingChecks (viewOf image)) o (inOrder-refused (openingChecks (viewOf image)) _ e)
-
--- What an image that opens is.
-pub record Opens (image : List ℕ) (count groups : ℕ) : Type 0 where
-  pub size : length image ≡ lineLength * (1 + groups + count)
-  pub count-is : countIn (viewOf image) ≡ count
-  pub groups-is : groupsIn (viewOf image) ≡ groups
-  pub count-legal : count ≤ tagsMax
-  pub groups-some : 1 ≤ groups
-  pub groups-legal : groups ≤ groupsMax
 
 counts-of : (image : List ℕ) {n b : ℕ} → imageHeader (lineAt 0 image) ≡ some (n, b)
     → (countIn (viewOf image) ≡ n) × (groupsIn (viewOf image) ≡ b)

@@ -7,7 +7,7 @@ use Rattle.refusal.specs.Limits.{groupMax, limitMax}
 use Rattle.lists.specs.First.{isSome}
 use Rattle.group.specs.Group.{leastSeed}
 use Rattle.group.specs.Placing.{placementOf}
-use Rattle.group.specs.AscendingLaws.{Ascending}
+use Rattle.group.specs.Ascending.{Ascending}
 use Rattle.lists.specs.UpTo.{upTo}
 use Rattle.building.specs.Parts.{partOf, Parts}
 

@@ -13,7 +13,8 @@ use Rattle.refusal.specs.LimitsLaws.{outside-not}
 use Rattle.refusal.specs.Outcome.{answered, refused}
 use Rattle.group.specs.Group.{leastSeed}
 use Rattle.group.specs.Placing.{Placement, placementOf, placingOf}
-use Rattle.group.specs.AscendingLaws.{Ascending, check-of-ascending}
+use Rattle.group.specs.Ascending.{Ascending}
+use Rattle.group.specs.AscendingLaws.{check-of-ascending}
 use Rattle.lists.specs.UpTo.{upTo}
 use Rattle.lists.specs.UpToLaws.{upTo-length, upTo-at, upTo-more}
 use Rattle.placing.specs.PlacingLaws.{placing-unseeded, placing-seeded}

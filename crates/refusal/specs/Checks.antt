@@ -1,5 +1,6 @@
 -- The one rule by which every operation refuses. Assumes nothing.
 use Prim.Native.Nat.{ℕ}
+use mathlib.Core.Path.{_≡_}
 use mathlib.Core.Bool.{Bool}
 use mathlib.Core.List.{List, [], _∷_}
 use mathlib.Core.Option.{Option, none, some}
@@ -20,3 +21,8 @@ unfoldable pub inOrder : {A : Type 0} → List Check → Outcome A → Outcome A
 inOrder [] outcome = outcome
 inOrder ((number, none) ∷ checks) outcome = inOrder checks outcome
 inOrder ((number, some place) ∷ checks) outcome = refused number place
+
+-- No condition is met.
+abbrev pub Pass : List Check → Type 0
+Pass [] = Unit {0}
+Pass (check ∷ checks) = (check .1 ≡ none) × Pass checks

@@ -9,7 +9,7 @@ use native.Mathlib.Omega.{arith}
 use lib.Dec.{eqb}
 use Rattle.refusal.specs.Outcome.{Outcome, answered, refused}
 use Rattle.lists.specs.First.{metAt}
-use Rattle.refusal.specs.Checks.{Check, met, inOrder}
+use Rattle.refusal.specs.Checks.{Check, met, inOrder, Pass}
 
 -- A condition that holds is met at its place.
 pub metAt-true : (place : ℕ) {condition : Bool} → condition ≡ true → metAt place condition ≡ some place
@@ -53,11 +53,6 @@ true-of-met condition e = true-of-metAt 0 condition e
 pub false-of-met : (condition : Bool) → met condition ≡ none → condition ≡ false
 unfolding met
 false-of-met condition e = false-of-metAt 0 condition e
-
--- No condition is met.
-abbrev pub Pass : List Check → Type 0
-Pass [] = Unit {0}
-Pass (check ∷ checks) = (check .1 ≡ none) × Pass checks
 
 -- The first condition met is one with this number, at this place.
 abbrev pub Met : List Check → ℕ → ℕ → Type 0

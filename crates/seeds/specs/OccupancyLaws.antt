@@ -14,8 +14,7 @@ use borrow.Author.Tests.{eqb-true, eqb-false}
 use Rattle.bits.specs.Bit.{bitAt, setBit}
 use Rattle.bits.specs.BitLaws.{bit-zero, bit-same, bit-other, setBit-comm, setBit-ones, ones-zero, or-setBit}
 use Rattle.lists.specs.Occurs.{occurs}
-use Rattle.filling.specs.Filling.{Key, placeBy, Fills}
-use Rattle.filling.specs.FillingLaws.{EachCandidate}
+use Rattle.filling.specs.Filling.{Key, placeBy, Fills, EachCandidate}
 use Rattle.filling.specs.Touched.{candidatePlaces, once, touched}
 use Rattle.filling.specs.TouchedLaws.{fills-touched, untouched-none}
 use Rattle.filling.specs.Word.{choiceNumber}

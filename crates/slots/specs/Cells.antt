@@ -6,7 +6,7 @@ use lib.ListN.{getD}
 use Rattle.refusal.specs.Limits.{groupsMax, seedMax, tagsMax}
 use Rattle.image.specs.Sheet.{imageLength}
 use Rattle.image.specs.View.{View}
-use Rattle.image.specs.FaultLaws.{Fair}
+use Rattle.image.specs.Fair.{Fair}
 
 -- The image with the numbers in the cells: cell g of the starts and of the seeds is group g's, cell B of the starts is N, and cell j
 -- of the tags is slot j's.

@@ -10,7 +10,8 @@ use lib.ListN.{getD}
 use borrow.Author.Tests.{ltb-true, ltb-false}
 use Rattle.refusal.specs.Limits.{tagsMax}
 use Rattle.image.specs.View.{View, countIn, groupsIn, startIn, seedIn, endIn, slotLineIn, slotIn}
-use Rattle.image.specs.FaultLaws.{AllFair, end-next, end-last, end-most}
+use Rattle.image.specs.Fair.{AllFair}
+use Rattle.image.specs.FaultLaws.{end-next, end-last, end-most}
 use Rattle.slots.specs.Cells.{cellsView, Regular}
 
 module _ (starts seeds tags : List ℕ) (groups : ℕ) where

@@ -1,4 +1,4 @@
 pub mod Row
 pub mod Table
-pub mod Theorem
+pub mod TableTheorem
 pub mod WholeCase

@@ -10,7 +10,7 @@ use Rattle.refusal.specs.Outcome.{Outcome}
 use Rattle.build.specs.Answer.{buildOutcome}
 use Rattle.build.specs.declared.BuildAnswer.{BuildAnswer}
 use Rattle.building.specs.FromText.{bufferFromText}
-use Rattle.from_text.specs.Promise.{TextPromised}
+use Rattle.from_text.specs.PromiseLaws.{TextPromised}
 use Rattle.refusal.specs.PlaceLaws.{place-below}
 use Rattle.from_text.specs.PlaceLaws.{textLines, from-text-place}
 use Rattle.boundary.specs.Answer64.{answer64, outcome64, buildAnswer}

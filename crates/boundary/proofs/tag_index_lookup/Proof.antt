@@ -9,7 +9,7 @@ use Rattle.image.specs.Lookup.{Found}
 use Rattle.lookup.specs.Answer.{lookupOutcome}
 use Rattle.refusal.specs.PlaceLaws.{place-below}
 use Rattle.boundary.specs.Answer64.{answer64, foundNumber, lookupAnswer}
-use Rattle.boundary.specs.Condition2.{answered-condition2}
+use Rattle.boundary.specs.Condition2Laws.{answered-condition2}
 use Rattle.boundary.specs.PlaceLaws.{imageLines, lookup-place}
 use Rattle.boundary.proofs.tag_index_lookup.Statement.{statement}
 use Rattle.boundary.proofs.tag_index_lookup.Tie as tie

@@ -6,7 +6,7 @@ use Rattle.refusal.specs.Limits.{groupsMax}
 use Rattle.refusal.specs.LimitsLaws.{inside}
 use Rattle.refusal.specs.Answer.{firstMeaning}
 use Rattle.building.specs.BuildingLaws.{building-groups, building-limit, building-many, building-descends, building-short}
-use Rattle.build.specs.Promise.{promised, promised-refusal}
+use Rattle.build.specs.PromiseLaws.{promised, promised-refusal}
 use borrow.Author.Needs.{needs}
 use Rattle.build.proofs.build.Statement.{statement}
 use Rattle.build.proofs.build.Tie as tie

@@ -6,7 +6,7 @@ use native.Mathlib.Omega.{arith}
 use Rattle.refusal.specs.Limits.{tagsMax}
 use Rattle.refusal.specs.OutcomeLaws.{refused-of-by}
 use Rattle.list.specs.Answer.{headOf, listOutcome}
-use Rattle.from_text.specs.Promise.{text-long, text-read, promised-unread, promised-read, read-into}
+use Rattle.from_text.specs.PromiseLaws.{text-long, text-read, promised-unread, promised-read, read-into}
 use Rattle.from_text.proofs.build_from_text.Statement.{statement}
 use Rattle.from_text.proofs.build_from_text.Tie as tie
 

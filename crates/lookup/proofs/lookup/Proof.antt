@@ -5,7 +5,7 @@ use mathlib.Core.Path.{sym, _∙_, ap}
 use Rattle.opening.specs.Answer.{openedOutcome}
 use Rattle.opening.specs.OpeningLaws.{opening-answered}
 use Rattle.lookup.specs.StepsLaws.{lookup-unopened, lookup-opened}
-use Rattle.lookup.specs.Condition2.{lookup-condition2}
+use Rattle.lookup.specs.Condition2Laws.{lookup-condition2}
 use Rattle.lookup.proofs.lookup.Statement.{statement}
 use Rattle.lookup.proofs.lookup.Tie as tie
 

@@ -15,7 +15,7 @@ use Rattle.filling.specs.Filling.{placeBy}
 use Rattle.filling.specs.Least.{beginning, leastFrom, least, feasible}
 use Rattle.filling.specs.Word.{choiceNumber, wordOf}
 use Rattle.group.specs.Group.{bothPlaces, candidates, leastSeed, taken}
-use Rattle.group.specs.AscendingLaws.{Ascending}
+use Rattle.group.specs.Ascending.{Ascending}
 use Rattle.group.specs.Placing.{placementOf}
 use Rattle.building.specs.Parts.{partStart, partOf}
 use Rattle.plan.specs.Plan.{unseeded, partSeed, partWord, cellsPlanned, Plannable}

@@ -15,15 +15,8 @@ use Rattle.list.specs.Reading.{Listed, readingOf, cellsAfter}
 use Rattle.list.specs.Answer.{ListHead, headOf}
 use Rattle.list.specs.ReadingLaws.{read-as}
 use Rattle.building.specs.FromText.{listFromText, buildingFromText, bufferOfList, bufferFromText}
-use Rattle.condition3.specs.Condition3.{Condition3}
-use Rattle.build.specs.Promise.{Promised}
-
--- Condition 3, for the list that a text states: of building's answer for a buffer of `room` bytes, and of the bytes left. A text that
--- is refused states no list.
-abbrev pub TextCondition3 : List ℕ → ℕ → Outcome ℕ → List ℕ → Type 0
-TextCondition3 text room outcome after =
-    (listed : Listed) → listFromText text ≡ answered listed
-    → Condition3 (listed .tags) (listed .groups) (listed .limit) room outcome after
+use Rattle.build.specs.PromiseLaws.{Promised}
+use Rattle.from_text.specs.Condition3.{TextCondition3}
 
 -- The answer, the buffer, and Condition 3 of both: for an answer `outcome` that left `after`.
 abbrev pub TextPromised : List ℕ → List ℕ → Outcome ℕ → List ℕ → Type 0

@@ -15,8 +15,8 @@ use Rattle.refusal.specs.LimitsLaws.{outside-not, inside}
 use Rattle.refusal.specs.Outcome.{answered, refused}
 use Rattle.lists.specs.First.{first, isSome}
 use Rattle.lists.specs.FirstLaws.{first-some, first-none, first-found, first-out, none-of-isSome}
-use Rattle.refusal.specs.Checks.{Check, met, inOrder}
-use Rattle.refusal.specs.ChecksLaws.{met-false, false-of-met, Pass, Met, inOrder-pass, inOrder-answered, inOrder-refused, inOrder-append}
+use Rattle.refusal.specs.Checks.{Check, met, inOrder, Pass}
+use Rattle.refusal.specs.ChecksLaws.{met-false, false-of-met, Met, inOrder-pass, inOrder-answered, inOrder-refused, inOrder-append}
 use Rattle.text.specs.Line.{lineLength}
 use Rattle.lists.specs.Occurs.{occurs}
 use Rattle.group.specs.Group.{leastSeed, taken}
@@ -27,7 +27,7 @@ use Rattle.image.specs.Sheet.{Sheet, imageLength}
 use Rattle.image.specs.SheetLaws.{group-at}
 use Rattle.image.specs.View.{viewOf}
 use Rattle.image.specs.Checking.{checkingChecks, checkingOf}
-use Rattle.image.specs.CheckedLookup.{pass-of-sound}
+use Rattle.image.specs.CheckedLookupLaws.{pass-of-sound}
 use Rattle.image.specs.Lookup.{number, unknown, lookupOf}
 use Rattle.building.specs.Members.{members}
 use Rattle.building.specs.MembersLaws.{start-all, start-before}
@@ -35,7 +35,7 @@ use Rattle.building.specs.Number.{numberOf, tagNumbered}
 use Rattle.building.specs.NumberLaws.{number-below, number-apart, number-onto, AllFill, all-placed, tagNumbered-is}
 use Rattle.building.specs.Building.{sheetOf, seedTaken, choicesTaken, imageOf, tooLarge, seedless, buildingChecks, buildingOf, written, bufferAfter}
 use Rattle.building.specs.BuildingLaws.{image-length, seed-least, taken-fill}
-use Rattle.built.specs.Built.{Reads, InRange, reads-back, built-sound, built-listed, built-unlisted}
+use Rattle.built.specs.BuiltLaws.{Reads, InRange, reads-back, built-sound, built-listed, built-unlisted}
 use Rattle.condition3.specs.Condition3.{NothingFills, HasSeed, LowestWithout, EarlierChecks, Accepted, Condition3}
 
 module _ (tags : List ℕ) (groups limit : ℕ) where

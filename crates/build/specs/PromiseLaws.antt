@@ -11,7 +11,7 @@ use Rattle.lists.specs.OccursLaws.{occurs-getD}
 use Rattle.building.specs.Building.{buildingOf, bufferAfter}
 use Rattle.building.specs.BuildingLaws.{buffer-kept}
 use Rattle.condition3.specs.Condition3.{Condition3}
-use Rattle.built.specs.Theorem.{condition3}
+use Rattle.built.specs.Condition3Theorem.{condition3}
 
 -- The tags of a list of 32-bit numbers are tags.
 pub tags-of-words : (tags : List ℕ) → ((i : ℕ) → getD tags i 0 < tagEnd) → (t : ℕ) → occurs t tags ≡ true → t < tagEnd

@@ -14,21 +14,18 @@ use Rattle.lists.specs.BoolLaws.{neither-of-or, either-of-or}
 use Rattle.refusal.specs.Outcome.{Outcome, answered}
 use Rattle.lists.specs.First.{first, metAt, isSome}
 use Rattle.lists.specs.FirstLaws.{first-none, first-out, some-of-isSome, none-of-isSome}
-use Rattle.refusal.specs.Checks.{inOrder}
-use Rattle.refusal.specs.ChecksLaws.{metAt-false, false-of-met, Pass, inOrder-pass, inOrder-answered, inOrder-append}
+use Rattle.refusal.specs.Checks.{inOrder, Pass}
+use Rattle.refusal.specs.ChecksLaws.{metAt-false, false-of-met, inOrder-pass, inOrder-answered, inOrder-append}
 use Rattle.hash.specs.FormulaLaws.{group-below, place-below}
 use Rattle.text.specs.Line.{lineAt, imageHeader}
 use Rattle.text.specs.LineLaws.{image-header-only}
 use Rattle.image.specs.View.{View, viewOf, countIn, groupsIn, startIn, seedIn, endIn, slotLineIn, slotIn, faulty, candidateIn}
+use Rattle.image.specs.Holds.{HoldsTag, SlotHolds}
 use Rattle.image.specs.Checking.{openingChecks, malformedIn, groupOfSlot, misplaced, repeated, checkingChecks, checkingOf}
 use Rattle.image.specs.Lookup.{Found, number, unknown, groupChecks, lookupChecks, atSlot, lookupInGroup, lookupOf}
 use Rattle.image.specs.LinesRead.{ownGroup, ownSlot}
-use Rattle.image.specs.FaultLaws.{fair-of-faulty, LiesIn, AllFair, end-most, groupOfSlot-lies}
-
--- Slot j holds tag t.
-pub record HoldsTag (v : View) (j t : ℕ) : Type 0 where
-  pub slot : j < countIn v
-  pub tag : v .slotAt (slotLineIn v j) ≡ some t
+use Rattle.image.specs.Fair.{LiesIn, AllFair}
+use Rattle.image.specs.FaultLaws.{fair-of-faulty, end-most, groupOfSlot-lies}
 
 -- What checking establishes of an image that it accepts.
 pub record Sound (v : View) : Type 0 where
@@ -254,10 +251,6 @@ count-most image = go (imageHeader (lineAt 0 image)) refl
     go : (o : Option (ℕ × ℕ)) → imageHeader (lineAt 0 image) ≡ o → (Option·getD o (0, 0)) .0 ≤ tagsMax
     go none e = omega arith
     go (some (n, b)) e = (image-header-only n b (lineAt 0 image) e) .1
-
--- Slot j of an image holds t.
-abbrev pub SlotHolds : List ℕ → ℕ → ℕ → Type 0
-SlotHolds image j t = HoldsTag (viewOf image) j t
 
 -- "Looking up a tag in a checked image gives the number that the image states for it, or 'unknown' if the image has no such tag."
 pub record LooksUp (image : List ℕ) (t : ℕ) : Type 0 where

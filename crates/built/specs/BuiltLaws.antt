@@ -26,9 +26,10 @@ use Rattle.image.specs.SheetLaws.{bytes-length, header-reads, group-reads, slot
 use Rattle.image.specs.View.{View, viewOf, countIn, groupsIn, startIn, seedIn, endIn, slotLineIn, slotIn, candidateIn}
 use Rattle.image.specs.Checking.{openingChecks, groupOfSlot, misplaced, repeated}
 use Rattle.image.specs.Lookup.{number, unknown, lookupInGroup}
-use Rattle.image.specs.FaultLaws.{faulty-of-fair, LiesIn, AllFair, lies-once, groupOfSlot-lies}
+use Rattle.image.specs.Fair.{LiesIn, AllFair}
+use Rattle.image.specs.FaultLaws.{faulty-of-fair, lies-once, groupOfSlot-lies}
 use Rattle.image.specs.LinesRead.{ownGroup}
-use Rattle.image.specs.CheckedLookup.{Sound, slotIn-reads, Looked, found, nowhere, own-placed, lookup-ends}
+use Rattle.image.specs.CheckedLookupLaws.{Sound, slotIn-reads, Looked, found, nowhere, own-placed, lookup-ends}
 use Rattle.building.specs.Members.{members, startOf}
 use Rattle.building.specs.MembersLaws.{start-zero, start-all, start-suc}
 use Rattle.building.specs.Number.{choiceOf, placeIn, numberOf, tagNumbered}
