@@ -14,7 +14,6 @@
 mod images;
 mod lists;
 mod printing;
-mod random;
 mod soak;
 mod stored;
 mod tally;
@@ -27,6 +26,7 @@ use std::process::ExitCode;
 use std::time::{Duration, Instant};
 
 use random::Random;
+
 use tally::Tally;
 
 /// How many cases a run has.
