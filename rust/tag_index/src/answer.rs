@@ -5,7 +5,7 @@
 //! proved one, so taking it apart panics: there is no safe way on, and no caller could do better.
 
 use crate::refusal::{Reason, Refusal};
-use crate::{image_length, LARGEST_GROUP_COUNT, LARGEST_LIST, LONGEST_IMAGE, LONGEST_TEXT};
+use crate::{LARGEST_GROUP_COUNT, LARGEST_LIST, LONGEST_IMAGE, LONGEST_TEXT};
 
 /// The answer that stands for unknown.
 pub const UNKNOWN: u64 = 4_294_967_295;
@@ -82,22 +82,6 @@ pub(crate) fn found(answer: u64, count: usize) -> Option<u32> {
     }
 }
 
-/// N and B as line 0 of a checked image states them, in five columns each; they fit its length.
-pub(crate) fn stated(image: &[u8]) -> (usize, u32) {
-    let field = |from: usize| {
-        let columns = std::str::from_utf8(image.get(from..from + 5)?).ok()?;
-        columns.trim_start().parse::<u32>().ok()
-    };
-    match (field(0), field(5)) {
-        (Some(count), Some(groups)) if image_length(groups, count as usize) == image.len() => {
-            (count as usize, groups)
-        }
-        _ => panic!(
-            "checking accepted an image whose length is not what line 0 states: {WRONG_LIBRARY}"
-        ),
-    }
-}
-
 /// The refusal that an answer stands for, if it is one of `reasons` at a place that it can name.
 /// An answer without such a refusal goes back to the caller, which has bounds of its own.
 fn refusal(answer: u64, reasons: &[Reason]) -> Option<Refusal> {
@@ -120,7 +104,8 @@ fn places(reason: Reason) -> std::ops::RangeInclusive<u32> {
     }
 }
 
-const WRONG_LIBRARY: &str = "the linked library is not the proved one";
+/// How a panic ends that only another library can cause.
+pub(crate) const WRONG_LIBRARY: &str = "the linked library is not the proved one";
 
 fn not_allowed(operation: &str, answer: u64) -> ! {
     panic!("{operation} answered {answer}, which document 01 does not allow: {WRONG_LIBRARY}")
@@ -192,16 +177,6 @@ mod tests {
         assert_eq!(found(UNKNOWN, 0), None);
         for (answer, count) in [(3, 3), (0, 0), (refused(11, 0), 3), (refused(13, 1), 3)] {
             assert!(catch_unwind(|| found(answer, count)).is_err(), "{answer}");
-        }
-        // A first line that is none, or that says another length.
-        assert_eq!(stated(b"    0    1\n    0    0\n"), (0, 1));
-        for image in [
-            &b""[..],
-            b"    0    1",
-            b"    1    1\n    0    0\n",
-            b"    0    x\n",
-        ] {
-            assert!(catch_unwind(|| stated(image)).is_err(), "{image:?}");
         }
         // No number of a reason, a place that the reason does not name, a place out of range.
         for answer in [

@@ -3,7 +3,7 @@
 use std::borrow::Cow;
 
 use crate::refusal::Refusal;
-use crate::{answer, check, raw};
+use crate::{answer, check, image_length, raw};
 
 /// An image that checking accepted: its lookups answer a number or nothing, and never refuse.
 ///
@@ -70,7 +70,7 @@ impl<'a> Index<'a> {
     pub fn new(image: impl Into<Cow<'a, [u8]>>) -> Result<Index<'a>, Refusal> {
         let image = image.into();
         check(&image)?;
-        let (count, groups) = answer::stated(&image);
+        let (count, groups) = stated(&image);
         Ok(Index {
             image,
             count,
@@ -135,5 +135,41 @@ impl<'a> Index<'a> {
     /// ```
     pub fn as_bytes(&self) -> &[u8] {
         &self.image
+    }
+}
+
+/// N and B as line 0 of a checked image states them, in five columns each; they fit its length.
+fn stated(image: &[u8]) -> (usize, u32) {
+    let field = |from: usize| {
+        let columns = std::str::from_utf8(image.get(from..from + 5)?).ok()?;
+        columns.trim_start().parse::<u32>().ok()
+    };
+    match (field(0), field(5)) {
+        (Some(count), Some(groups)) if image_length(groups, count as usize) == image.len() => {
+            (count as usize, groups)
+        }
+        _ => panic!(
+            "checking accepted an image whose length is not what line 0 states: {}",
+            answer::WRONG_LIBRARY
+        ),
+    }
+}
+
+#[cfg(test)]
+mod tests {
+    use super::stated;
+    use std::panic::catch_unwind;
+
+    #[test]
+    fn a_first_line_that_is_none_or_says_another_length_panics() {
+        assert_eq!(stated(b"    0    1\n    0    0\n"), (0, 1));
+        for image in [
+            &b""[..],
+            b"    0    1",
+            b"    1    1\n    0    0\n",
+            b"    0    x\n",
+        ] {
+            assert!(catch_unwind(|| stated(image)).is_err(), "{image:?}");
+        }
     }
 }
