@@ -25,6 +25,7 @@ extern "C" {
 /* The ranges of document 01. */
 #define TAG_INDEX_LARGEST_LIST 4096u   /* tags of a list, N */
 #define TAG_INDEX_LARGEST_GROUPS 512u  /* group count, B */
+#define TAG_INDEX_LARGEST_GROUP 24u    /* tags of a group */
 #define TAG_INDEX_LARGEST_LIMIT 65536u /* seed limit, L */
 #define TAG_INDEX_LONGEST_TEXT 65527u  /* bytes of a list text that building examines */
 #define TAG_INDEX_LONGEST_IMAGE 50699u /* bytes of an image: a buffer so long is never too short */
@@ -34,7 +35,7 @@ extern "C" {
 #define TAG_INDEX_UNKNOWN UINT64_C(4294967295)
 
 /* The numbers of the refusals, and what their place counts, from 0; it is 0 where none is said.
- * 1 to 3 belong to "place of one tag" and never come from these functions. */
+ * 1 to 3 belong to "place of one tag" and never come from these functions. More can come. */
 enum tag_index_reason {
     TAG_INDEX_SIZE_OUT_OF_RANGE = 1,
     TAG_INDEX_SEED_OUT_OF_RANGE = 2,

@@ -1,10 +1,13 @@
-//! Links `libboundary.a`, the three functions of the C boundary.
+//! Links the library with the functions of the C boundary.
 //!
-//! It stands in `target/staticlib` of the repository, or in the directory that the environment
-//! variable `TAG_INDEX_LIB_DIR` names; a relative one is taken from the repository's root.
+//! Its archive stands in `target/staticlib` of the repository, or in the directory that the
+//! environment variable `TAG_INDEX_LIB_DIR` names; a relative one is taken from the repository's root.
 
 use std::path::{Path, PathBuf};
 use std::{env, process};
+
+/// The library's name, as in Cargo.toml under `links`; the archive is `lib` and the name.
+const LIBRARY: &str = "boundary";
 
 fn main() {
     println!("cargo:rerun-if-changed=build.rs");
@@ -14,7 +17,7 @@ fn main() {
     let directory = Path::new(&here)
         .join("../..")
         .join(named.unwrap_or_else(|| PathBuf::from("target/staticlib")));
-    let library = directory.join("libboundary.a");
+    let library = directory.join(format!("lib{LIBRARY}.a"));
     println!("cargo:rerun-if-changed={}", library.display());
     if !library.is_file() {
         eprintln!(
@@ -26,5 +29,5 @@ fn main() {
         process::exit(1);
     }
     println!("cargo:rustc-link-search=native={}", directory.display());
-    println!("cargo:rustc-link-lib=static=boundary");
+    println!("cargo:rustc-link-lib=static={LIBRARY}");
 }

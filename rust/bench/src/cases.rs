@@ -1,9 +1,9 @@
 //! The lists that are built, checked and looked up in.
 
-use crate::random::Random;
 use model::hash::{group_of, place_of};
 use model::list_text;
 use model::placing::LARGEST_GROUP;
+use random::Random;
 use std::collections::HashSet;
 use std::iter;
 

@@ -4,8 +4,8 @@
 //! difference of two runs is what the repetitions between them take.
 
 use crate::cases::{self, Case};
-use crate::random::Random;
 use crate::versions::{Version, BOTH, PLAIN};
+use random::Random;
 use std::hint::black_box;
 use tag_index::LONGEST_IMAGE;
 

@@ -3,11 +3,11 @@
 use crate::cases::{walked, Case, LIMIT};
 use crate::plain;
 use crate::plot::{Plot, Scale, Series};
-use crate::random::Random;
 use crate::tables::{build_samples, lookup_samples};
 use crate::timing::{time, Sample, REPETITIONS};
 use model::line::{line, read_two};
 use model::list_text;
+use random::Random;
 use std::fs;
 use std::io;
 use std::path::Path;

@@ -9,7 +9,6 @@ mod count;
 mod growth;
 mod plain;
 mod plot;
-mod random;
 mod tables;
 mod timing;
 mod versions;

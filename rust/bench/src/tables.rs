@@ -1,9 +1,9 @@
 //! Building, checking and lookup of each case: every version's time, with its results asserted.
 
 use crate::cases::{self, Case, LIMIT};
-use crate::random::Random;
 use crate::timing::{measure, median, print as print_samples, time, Sample, Timed, REPETITIONS};
 use crate::versions::{Version, BOTH};
+use random::Random;
 use std::collections::HashMap;
 use std::hint::black_box;
 use std::time::{Duration, Instant};

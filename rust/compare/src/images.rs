@@ -2,9 +2,9 @@
 
 use model::hash::group_of;
 use model::line::{line_of_tag, line_of_two, read_tag, read_two, LINE};
+use random::Random;
 
 use crate::lists::{absent_tags, large, structured, tags_of_group, Case};
-use crate::random::Random;
 use crate::tally::Tally;
 use crate::Size;
 
@@ -68,10 +68,12 @@ fn asked(random: &mut Random, case: &Case, most: usize) -> Vec<u32> {
 
 /// What both sides say of one image.
 fn examine(tally: &mut Tally, image: &[u8], tags: &[u32]) {
-    tally.check(image);
-    for &tag in tags {
-        tally.lookup(image, tag);
-    }
+    let checked = tally.check(image);
+    let found: Vec<(u32, u64)> = tags
+        .iter()
+        .map(|&tag| (tag, tally.lookup(image, tag)))
+        .collect();
+    tally.index(image, checked, &found);
 }
 
 /// Every byte with all other values, every cut, and bytes behind.
@@ -312,7 +314,7 @@ fn fault(random: &mut Random, case: &Case, image: &[u8]) -> (&'static str, Vec<u
     let slot = |random: &mut Random| LINE * (1 + groups + random.below(case.tags.len()));
     match random.below(if case.tags.len() > 1 { 8 } else { 5 }) {
         0 => {
-            changed[random.below(image.len())] = random.next() as u8;
+            changed[random.below(image.len())] = random.next_u64() as u8;
             ("sampled bytes of larger images", changed)
         }
         1 => {

@@ -5,8 +5,8 @@ use std::collections::BTreeSet;
 use model::hash::group_of;
 use model::image::image_length;
 use model::list_text;
+use random::Random;
 
-use crate::random::Random;
 use crate::tally::Tally;
 use crate::Size;
 

@@ -1,5 +1,5 @@
 //! Runs cases against the model of document 01: the proved functions over the C boundary, answers
-//! and every byte of the buffer, and the index printer.
+//! and every byte of the buffer, the binding's `Index`, and the index printer.
 //!
 //!     compare                  a million answers and more, under a minute
 //!     compare --long           more than ten million, and many more lists
@@ -14,7 +14,6 @@
 mod images;
 mod lists;
 mod printing;
-mod random;
 mod soak;
 mod stored;
 mod tally;
@@ -27,6 +26,7 @@ use std::process::ExitCode;
 use std::time::{Duration, Instant};
 
 use random::Random;
+
 use tally::Tally;
 
 /// How many cases a run has.

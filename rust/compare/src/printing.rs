@@ -6,8 +6,9 @@ use std::path::Path;
 use std::process::{Command, Stdio};
 use std::thread;
 
+use random::Random;
+
 use crate::lists::{large, structured, tags_of_group, Case};
-use crate::random::Random;
 use crate::tally::{differs, shown, Tally};
 use crate::texts::damaged;
 use crate::Size;

@@ -4,10 +4,10 @@
 use std::fs;
 use std::time::{Duration, Instant};
 
+use random::Random;
 use tag_index::raw;
 
 use crate::lists::{large, structured};
-use crate::random::Random;
 use crate::tally::differs;
 
 /// The process may grow by so much after the first rounds: a few pages that the allocator or the
@@ -86,7 +86,7 @@ fn expected(random: &mut Random) -> Vec<Expected> {
                 .map(|&tag| (tag, model::answer_lookup(&buffer, tag)))
                 .collect();
             let damage = (built >> 32 == 0).then(|| {
-                let (at, byte) = (random.below(room), random.next() as u8);
+                let (at, byte) = (random.below(room), random.next_u64() as u8);
                 let mut changed = buffer.clone();
                 changed[at] = byte;
                 let tag = tags[random.below(tags.len())];

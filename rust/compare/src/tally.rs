@@ -3,7 +3,7 @@
 use std::collections::{BTreeMap, BTreeSet};
 use std::process;
 
-use tag_index::{raw, Reason, UNKNOWN};
+use tag_index::{raw, Index, Reason, UNKNOWN};
 
 /// Bytes behind the buffer that building is lent, which must stay as they are.
 const GUARD: usize = 32;
@@ -72,10 +72,20 @@ impl Answers {
     }
 }
 
+/// The binding's `Index`: images taken, images refused, lookups that answered a number or unknown.
+/// They go through the same C functions, so they do not count as answers of these.
+#[derive(Default)]
+struct Indexes {
+    taken: u64,
+    refused: u64,
+    lookups: u64,
+}
+
 pub struct Tally {
     kind: &'static str,
     kinds: BTreeMap<(Operation, &'static str), u64>,
     answers: [Answers; 4],
+    indexes: Indexes,
     /// Lends each call memory of just the right size, so that a memory checker sees a byte too far.
     exact: bool,
 }
@@ -86,6 +96,7 @@ impl Tally {
             kind: "",
             kinds: BTreeMap::new(),
             answers: Default::default(),
+            indexes: Indexes::default(),
             exact,
         }
     }
@@ -157,6 +168,47 @@ impl Tally {
         answer
     }
 
+    /// Takes an image as an `Index`: it is one where checking accepted, and its lookups answer what
+    /// lookup did. `checked` and `found` are what both sides answered.
+    pub fn index(&mut self, image: &[u8], checked: u64, found: &[(u32, u64)]) {
+        let taken = if self.exact {
+            Index::new(Box::<[u8]>::from(image).into_vec())
+        } else {
+            Index::new(image)
+        };
+        let index = match taken {
+            Ok(index) => index,
+            Err(refusal) => {
+                let answer = (u64::from(refusal.reason.number()) << 32) + u64::from(refusal.place);
+                if answer != checked {
+                    self.differs("taking an index", image, answer, checked, "");
+                }
+                self.indexes.refused += 1;
+                return;
+            }
+        };
+        if checked != 0 {
+            self.differs("taking an index", image, 0, checked, "");
+        }
+        let stated = model::line::read_two(&image[..11]);
+        if stated != Some((index.len() as u32, index.groups())) || index.as_bytes() != image {
+            let kind = self.kind;
+            differs(&format!(
+                "an index ({kind}) has another N, B or image than it was given\n{}",
+                shown(image)
+            ));
+        }
+        for &(tag, expected) in found {
+            let answer = index.lookup(tag).map_or(UNKNOWN, u64::from);
+            if answer != expected {
+                let case = format!("lookup of {tag} in an index");
+                self.differs(&case, image, answer, expected, "");
+            }
+        }
+        self.indexes.taken += 1;
+        self.indexes.lookups += found.len() as u64;
+    }
+
     /// Counts a run of the printer that wrote what the model writes.
     pub fn printed(&mut self, output: &[u8]) {
         // One line of two fields is a refusal: every image has at least two lines.
@@ -224,6 +276,13 @@ impl Tally {
                 }
             }
         }
+        let Indexes {
+            taken,
+            refused,
+            lookups,
+        } = self.indexes;
+        println!("            of the binding's Index: {taken} images taken, {refused} refused, {lookups} lookups");
+        complete &= taken > 0 && refused > 0 && lookups > 0;
         println!(
             "            refusals 1, 2 and 3 belong to place of one tag, which is not called over \
              the C boundary; --stored has them"

@@ -1,8 +1,9 @@
 //! List texts, whole and damaged: each byte changed, every cut, lines that are not figures, and
 //! lengths up to the longest text and beyond it.
 
+use random::Random;
+
 use crate::lists::{structured, Case};
-use crate::random::Random;
 use crate::tally::Tally;
 use crate::Size;
 
@@ -197,7 +198,7 @@ fn sampled_bytes(tally: &mut Tally, random: &mut Random, size: &Size) {
             text[at] = match random.below(3) {
                 0 => b" 0123456789\n"[random.below(12)],
                 1 => text[random.below(text.len())],
-                _ => random.next() as u8,
+                _ => random.next_u64() as u8,
             };
             tally.build(&text, case.length());
         }

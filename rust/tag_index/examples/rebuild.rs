@@ -1,4 +1,4 @@
-//! Rebuilds an index as a service would: builds the image of a list, checks it, looks up tags.
+//! Rebuilds an index as a service would: builds the image of a list, checks it once, looks up tags.
 //!
 //!     cargo run --offline --release -p tag_index --example rebuild
 
@@ -15,18 +15,19 @@ fn main() -> Result<(), Box<dyn Error>> {
     println!("image of {length} bytes:");
     print!("{}", String::from_utf8_lossy(image));
 
-    tag_index::check(image)?;
-    println!("checked");
+    let index = tag_index::Index::new(image)?;
+    println!("checked: {} tags in {} groups", index.len(), index.groups());
 
     for tag in tags.into_iter().chain([0, 8]) {
-        match tag_index::lookup(image, tag)? {
+        match index.lookup(tag) {
             Some(number) => println!("tag {tag} has number {number}"),
             None => println!("tag {tag} is unknown"),
         }
     }
 
     // A list that is not ascending is refused, and the refusal says where.
-    let refused = tag_index::image_of(groups, limit, &[3, 9, 9]).unwrap_err();
+    let text = tag_index::list_text(groups, limit, &[3, 9, 9])?;
+    let refused = tag_index::build(&text, &mut buffer).unwrap_err();
     println!("3, 9, 9: {refused}");
     Ok(())
 }

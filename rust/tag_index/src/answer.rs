@@ -72,6 +72,16 @@ pub(crate) fn looked_up(answer: u64) -> Result<Option<u32>, Refusal> {
     Ok(Some(answer as u32))
 }
 
+/// Lookup's answer in a checked image of `count` tags: the tag's number, or nothing for unknown. A
+/// checked image has no refusal, and no number beyond its slots.
+pub(crate) fn found(answer: u64, count: usize) -> Option<u32> {
+    match looked_up(answer) {
+        Ok(None) => None,
+        Ok(Some(number)) if (number as usize) < count => Some(number),
+        _ => not_allowed("lookup in a checked image", answer),
+    }
+}
+
 /// The refusal that an answer stands for, if it is one of `reasons` at a place that it can name.
 /// An answer without such a refusal goes back to the caller, which has bounds of its own.
 fn refusal(answer: u64, reasons: &[Reason]) -> Option<Refusal> {
@@ -94,8 +104,11 @@ fn places(reason: Reason) -> std::ops::RangeInclusive<u32> {
     }
 }
 
+/// How a panic ends that only another library can cause.
+pub(crate) const WRONG_LIBRARY: &str = "the linked library is not the proved one";
+
 fn not_allowed(operation: &str, answer: u64) -> ! {
-    panic!("{operation} answered {answer}, which document 01 does not allow: the linked libboundary.a is not the proved one")
+    panic!("{operation} answered {answer}, which document 01 does not allow: {WRONG_LIBRARY}")
 }
 
 #[cfg(test)]
@@ -125,7 +138,7 @@ mod tests {
 
     #[test]
     fn every_refusal_of_every_operation_is_taken_at_its_last_place() {
-        for reason in Reason::ALL {
+        for &reason in Reason::ALL {
             let place = *places(reason).end();
             let answer = refused(reason.number().into(), place.into());
             let refusal = Refusal { reason, place };
@@ -158,6 +171,12 @@ mod tests {
         }
         for answer in [4_096, UNKNOWN - 1, refused(14, 0), refused(12, 4_609)] {
             assert!(catch_unwind(|| looked_up(answer)).is_err(), "{answer}");
+        }
+        // In a checked image no lookup is refused, and no number is that of no slot.
+        assert_eq!(found(2, 3), Some(2));
+        assert_eq!(found(UNKNOWN, 0), None);
+        for (answer, count) in [(3, 3), (0, 0), (refused(11, 0), 3), (refused(13, 1), 3)] {
+            assert!(catch_unwind(|| found(answer, count)).is_err(), "{answer}");
         }
         // No number of a reason, a place that the reason does not name, a place out of range.
         for answer in [

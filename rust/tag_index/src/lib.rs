@@ -1,24 +1,27 @@
 //! The two-choice tag index for a Rust service: building an image from a list, checking it, and
 //! looking up tags in it.
 //!
-//! The work is done by the proved functions behind the C boundary (`libboundary.a`); this crate
-//! lends them slices and takes their answers apart. Every function takes any bytes, and its answer
-//! depends on nothing but its arguments.
+//! The work is done by the proved functions behind the C boundary; this crate lends them slices and
+//! takes their answers apart. Every function takes any bytes, and its answer depends on nothing but
+//! its arguments.
 //!
 //! ```
 //! let text = tag_index::list_text(2, 9, &[1, 2, 3])?;
 //! let mut buffer = [0; tag_index::LONGEST_IMAGE];
 //! let length = tag_index::build(&text, &mut buffer)?;
 //! let image = &buffer[..length];
-//! tag_index::check(image)?;
+//! // Checked once, an image is an index whose lookups cannot fail.
+//! let index = tag_index::Index::new(image)?;
+//! assert_eq!(index.lookup(3), Some(2));
+//! assert_eq!(index.lookup(4), None);
+//! // An image that nobody checked can be looked up in too, and a fault that is met is refused.
 //! assert_eq!(tag_index::lookup(image, 3)?, Some(2));
-//! assert_eq!(tag_index::lookup(image, 4)?, None);
 //! # Ok::<(), Box<dyn std::error::Error>>(())
 //! ```
 //!
 //! # Answers that document 01 does not allow
 //!
-//! The three functions panic if the library answers what document 01 does not allow, such as a
+//! These functions panic if the library answers what document 01 does not allow, such as a
 //! number above 4,095 or a refusal that the operation does not have. The proved library never
 //! does; the panic tells of a wrong library, before its answer can do harm.
 
@@ -26,6 +29,7 @@
 #![warn(missing_docs)]
 
 mod answer;
+mod index;
 mod list;
 pub mod raw;
 mod refusal;
@@ -34,6 +38,7 @@ use std::error::Error;
 use std::fmt;
 
 pub use answer::UNKNOWN;
+pub use index::Index;
 pub use list::{list_text, TooWide, LARGEST_FIELD};
 pub use refusal::{PlaceKind, Reason, Refusal};
 
@@ -42,6 +47,9 @@ pub const LARGEST_LIST: usize = 4_096;
 
 /// The most groups, B.
 pub const LARGEST_GROUP_COUNT: u32 = 512;
+
+/// The most tags of a group.
+pub const LARGEST_GROUP: usize = 24;
 
 /// The greatest seed limit, L.
 pub const LARGEST_LIMIT: u32 = 65_536;
@@ -94,7 +102,15 @@ pub fn build(text: &[u8], image: &mut [u8]) -> Result<usize, Refusal> {
     answer::built(raw::build(text, image), image.len())
 }
 
-/// Why no image came of a list of numbers.
+/// Why no image came of a list of numbers. Its [`source`](Error::source) says what is wrong.
+///
+/// ```
+/// use std::error::Error;
+/// let error = tag_index::image_of(1, 9, &[5, 5]).unwrap_err();
+/// assert_eq!(error.to_string(), "building refused the list");
+/// let cause = error.source().unwrap().to_string();
+/// assert_eq!(cause, "refusal 6: the tag at index 1 is not above the one before it");
+/// ```
 #[derive(Debug, Clone, Copy, PartialEq, Eq, Hash)]
 pub enum BuildError {
     /// B or L has no place in a list text.
@@ -105,14 +121,21 @@ pub enum BuildError {
 
 impl fmt::Display for BuildError {
     fn fmt(&self, f: &mut fmt::Formatter<'_>) -> fmt::Result {
-        match self {
-            BuildError::TooWide(error) => error.fmt(f),
-            BuildError::Refused(refusal) => refusal.fmt(f),
-        }
+        f.write_str(match self {
+            BuildError::TooWide(_) => "no list text can say the list",
+            BuildError::Refused(_) => "building refused the list",
+        })
     }
 }
 
-impl Error for BuildError {}
+impl Error for BuildError {
+    fn source(&self) -> Option<&(dyn Error + 'static)> {
+        Some(match self {
+            BuildError::TooWide(error) => error,
+            BuildError::Refused(refusal) => refusal,
+        })
+    }
+}
 
 impl From<TooWide> for BuildError {
     fn from(error: TooWide) -> BuildError {

@@ -4,10 +4,11 @@ use std::error::Error;
 use std::fmt;
 
 /// Why an operation refuses: what is the matter with its input. Document 01 numbers them 1 to 16,
-/// in this order.
+/// in this order; more can come, so a `match` needs an arm for the rest.
 ///
 /// Over the C boundary the first three never come: they belong to "place of one tag".
 #[derive(Debug, Clone, Copy, PartialEq, Eq, PartialOrd, Ord, Hash)]
+#[non_exhaustive]
 #[repr(u8)]
 pub enum Reason {
     /// 1: the size of a group is not 1 to 24.
@@ -44,8 +45,9 @@ pub enum Reason {
     MalformedList = 16,
 }
 
-/// What a refusal's place counts, from 0.
+/// What a refusal's place counts, from 0. More kinds can come.
 #[derive(Debug, Clone, Copy, PartialEq, Eq, Hash)]
+#[non_exhaustive]
 pub enum PlaceKind {
     /// A line of the list text or of the image.
     Line,
@@ -59,7 +61,7 @@ pub enum PlaceKind {
 
 impl Reason {
     /// All reasons, in the order of their numbers.
-    pub const ALL: [Reason; 16] = [
+    pub const ALL: &'static [Reason] = &[
         Reason::SizeOutOfRange,
         Reason::SeedOutOfRange,
         Reason::ChoiceOutOfRange,
@@ -96,7 +98,8 @@ impl Reason {
     /// ```
     pub fn from_number(number: u32) -> Option<Reason> {
         Reason::ALL
-            .into_iter()
+            .iter()
+            .copied()
             .find(|reason| reason.number() == number)
     }
 

@@ -1,7 +1,9 @@
 //! The whole case of document 01 through the binding, the refusals that a service meets first,
 //! and the words in which each refusal is said.
 
-use tag_index::{BuildError, Reason, Refusal, TooWide};
+use std::error::Error;
+
+use tag_index::{BuildError, Index, Reason, Refusal, TooWide};
 
 const TEXT: &[u8] = b"    2    9\n         1\n         2\n         3\n";
 const IMAGE: &[u8] = b"    3    2\n    0    0\n    1    1\n         2\n         1\n         3\n";
@@ -20,6 +22,38 @@ fn the_whole_case_is_built_checked_and_looked_up() {
     assert_eq!(tag_index::check(IMAGE), Ok(()));
     let numbers = [0, 1, 2, 3, 4, u32::MAX].map(|tag| tag_index::lookup(IMAGE, tag).unwrap());
     assert_eq!(numbers, [None, Some(1), Some(0), Some(2), None, None]);
+}
+
+#[test]
+fn a_checked_image_is_an_index_borrowed_or_owned() {
+    let borrowed = Index::new(IMAGE).unwrap();
+    let owned: Index<'static> = Index::new(IMAGE.to_vec()).unwrap();
+    assert_eq!(borrowed, owned);
+    for index in [borrowed, owned] {
+        assert_eq!((index.len(), index.groups()), (3, 2));
+        assert!(!index.is_empty());
+        assert_eq!(index.as_bytes(), IMAGE);
+        let numbers = [0, 1, 2, 3, 4, u32::MAX].map(|tag| index.lookup(tag));
+        assert_eq!(numbers, [None, Some(1), Some(0), Some(2), None, None]);
+    }
+    // The most tags in the most groups fill all columns of line 0 that can be filled.
+    let tags: Vec<u32> = (0..4_096).map(|tag| tag << 20 | tag).collect();
+    let index = Index::new(tag_index::image_of(512, 65_536, &tags).unwrap()).unwrap();
+    assert_eq!((index.len(), index.groups()), (4_096, 512));
+    assert_eq!(index.as_bytes().len(), tag_index::LONGEST_IMAGE);
+    let mut numbers: Vec<_> = tags.iter().map(|&tag| index.lookup(tag)).collect();
+    numbers.sort_unstable();
+    assert!(numbers.into_iter().eq((0..4_096).map(Some)));
+}
+
+#[test]
+fn an_image_that_checking_refuses_is_no_index() {
+    let damaged = [IMAGE, b" "].concat();
+    for image in [&b""[..], &IMAGE[..65], &damaged] {
+        let refused = Index::new(image).unwrap_err();
+        assert_eq!(refused, refusal(Reason::WrongLength, 0));
+        assert_eq!(Err(refused), tag_index::check(image));
+    }
 }
 
 #[test]
@@ -59,6 +93,8 @@ fn a_list_that_no_text_can_say_is_an_error() {
             Err(BuildError::TooWide(error))
         );
         assert!(error.to_string().contains("at most 99999"));
+        let source = BuildError::from(error).source().unwrap().to_string();
+        assert_eq!(source, error.to_string());
     }
     // The widest that it can say are refused by building.
     for (groups, limit, reason) in [
@@ -91,7 +127,7 @@ fn lengths_do_not_wrap() {
 
 #[test]
 fn a_refusal_says_its_number_and_names_its_place() {
-    for (index, reason) in Reason::ALL.into_iter().enumerate() {
+    for (index, &reason) in Reason::ALL.iter().enumerate() {
         assert_eq!(reason.number() as usize, index + 1);
         assert_eq!(Reason::from_number(reason.number()), Some(reason));
         let said = refusal(reason, 321).to_string();

@@ -1,8 +1,8 @@
 //! The plain version held against the model of document 01: every operation, on whole and damaged texts.
 
 use super::{build, check, lookup};
-use crate::random::Random;
 use model::{answer_build, answer_check, answer_lookup, list_text};
+use random::Random;
 
 /// Builds with both versions in a buffer of `room` bytes; answers the image.
 fn built(text: &[u8], room: usize) -> Option<Vec<u8>> {

@@ -1,8 +1,9 @@
 //! Connected parts and matching against brute force over all sequences, and against each other.
 
-use crate::common::{fills, refusal, Random};
+use crate::common::{fills, refusal};
 use model::place_group;
 use model::placing::{least_word, serves};
+use random::Random;
 
 /// The least filling sequence by trying all 2^n, the lowest tag's choice as the leading digit.
 fn least_by_brute_force(tags: &[u32], seed: u32) -> Option<u32> {
@@ -21,12 +22,12 @@ const STEPS: [u32; 4] = [1, 1 << 8, 1 << 26, 1 << 28];
 
 #[test]
 fn a_seed_serves_a_group_exactly_if_some_sequence_fills_it() {
-    let mut random = Random(3);
+    let mut random = Random::new(3);
     let (mut served, mut not_served) = (0, 0);
     for n in 0..=12 {
         for step in STEPS {
             for _ in 0..4 {
-                let tags = random.tags(n, step);
+                let tags = random.multiples(n, step);
                 let seed = random.below(65_536) as u32;
                 for seed in [0, 1, 2, 3, seed, 65_535] {
                     let least = least_by_brute_force(&tags, seed);
@@ -46,11 +47,11 @@ fn a_seed_serves_a_group_exactly_if_some_sequence_fills_it() {
 
 #[test]
 fn placing_finds_the_first_seed_and_least_word_of_brute_force() {
-    let mut random = Random(4);
+    let mut random = Random::new(4);
     for n in 0..=9 {
         for step in STEPS {
             for _ in 0..4 {
-                let tags = random.tags(n, step);
+                let tags = random.multiples(n, step);
                 let limit = 1 + random.below(40) as u32;
                 let first = (0..limit)
                     .find_map(|seed| least_by_brute_force(&tags, seed).map(|word| (seed, word)));
@@ -66,14 +67,14 @@ fn placing_finds_the_first_seed_and_least_word_of_brute_force() {
 
 #[test]
 fn in_large_groups_parts_and_matching_agree_and_the_word_fills() {
-    let mut random = Random(5);
+    let mut random = Random::new(5);
     let mut served = 0;
     for n in 13..=24 {
         for step in STEPS {
             if step == 1 << 28 && n > 16 {
                 continue; // There are only 16 such tags.
             }
-            let tags = random.tags(n, step);
+            let tags = random.multiples(n, step);
             for seed in 0..400 {
                 let word = least_word(&tags, seed);
                 assert_eq!(serves(&tags, seed), word.is_some(), "{tags:?} {seed}");

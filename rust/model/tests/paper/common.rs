@@ -1,4 +1,4 @@
-//! What several test files use: the whole case, groups with a known fate, random tags.
+//! What several test files use: the whole case, groups with a known fate.
 
 use model::hash::place_of;
 use model::Refusal;
@@ -56,30 +56,4 @@ pub fn tags_of_group(group: u32, groups: u32, count: usize) -> Vec<u32> {
         .filter(|&tag| model::hash::group_of(tag, groups) == group)
         .take(count)
         .collect()
-}
-
-/// A repeatable source of numbers (splitmix64).
-pub struct Random(pub u64);
-
-impl Random {
-    pub fn next(&mut self) -> u64 {
-        self.0 = self.0.wrapping_add(0x9E37_79B9_7F4A_7C15);
-        let mut mixed = self.0;
-        mixed = (mixed ^ (mixed >> 30)).wrapping_mul(0xBF58_476D_1CE4_E5B9);
-        mixed = (mixed ^ (mixed >> 27)).wrapping_mul(0x94D0_49BB_1331_11EB);
-        mixed ^ (mixed >> 31)
-    }
-
-    pub fn below(&mut self, bound: usize) -> usize {
-        (self.next() % bound as u64) as usize
-    }
-
-    /// Ascending tags, `count` of them, each a multiple of `step`.
-    pub fn tags(&mut self, count: usize, step: u32) -> Vec<u32> {
-        let mut tags = std::collections::BTreeSet::new();
-        while tags.len() < count {
-            tags.insert(self.next() as u32 / step * step);
-        }
-        tags.into_iter().collect()
-    }
 }

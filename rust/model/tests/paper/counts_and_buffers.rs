@@ -1,7 +1,8 @@
 //! Edges of counts, and what building leaves in a lent buffer.
 
-use crate::common::{group_without_seed, refusal, Random};
+use crate::common::{group_without_seed, refusal};
 use model::{build, check, image_of, lookup, place_group, Found};
+use random::Random;
 
 #[test]
 fn a_group_may_hold_0_1_and_24_tags_and_not_25() {
@@ -19,7 +20,7 @@ fn a_group_may_hold_0_1_and_24_tags_and_not_25() {
 
 #[test]
 fn a_list_may_hold_4096_tags_and_not_4097() {
-    let tags = Random(6).tags(4_096, 1);
+    let tags = Random::new(6).tags(4_096);
     let image = image_of(&tags, 512, 65_536).unwrap();
     // "at most 50,699 bytes"
     assert_eq!(image.len(), 50_699);
@@ -34,7 +35,7 @@ fn a_list_may_hold_4096_tags_and_not_4097() {
     numbers.sort_unstable();
     assert_eq!(numbers, (0..4_096).collect::<Vec<u32>>());
 
-    let tags = Random(6).tags(4_097, 1);
+    let tags = Random::new(6).tags(4_097);
     assert_eq!(image_of(&tags, 512, 65_536), Err(refusal(5, 0)));
 }
 
@@ -66,9 +67,9 @@ fn empty_groups_start_where_the_next_one_does_and_have_seed_0() {
 
 #[test]
 fn a_buffer_that_is_exact_or_longer_gets_the_image_and_no_other_byte() {
-    let mut random = Random(7);
+    let mut random = Random::new(7);
     for (groups, count) in [(1, 0), (1, 9), (2, 3), (7, 60), (512, 1_000)] {
-        let tags = random.tags(count, 1);
+        let tags = random.tags(count);
         let image = image_of(&tags, groups, 65_536).unwrap();
         for more in [0, 1, 11, 500] {
             let mut buffer = vec![0xA5; image.len() + more];
@@ -81,9 +82,9 @@ fn a_buffer_that_is_exact_or_longer_gets_the_image_and_no_other_byte() {
 
 #[test]
 fn a_buffer_that_is_one_byte_short_is_refused_and_kept() {
-    let mut random = Random(8);
+    let mut random = Random::new(8);
     for (groups, count) in [(1, 0), (1, 9), (2, 3), (7, 60), (512, 1_000)] {
-        let tags = random.tags(count, 1);
+        let tags = random.tags(count);
         let length = 11 * (1 + groups as usize + count);
         for short in [length - 1, length - 11, 0] {
             let mut buffer = vec![0xA5; short];

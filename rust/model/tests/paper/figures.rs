@@ -1,8 +1,8 @@
 //! Hash formulas against exact arithmetic; figures against their grammar.
 
-use crate::common::Random;
 use model::hash::{group_of, multiplier, place_of, G, K};
 use model::line::{figure, read_figure};
+use random::Random;
 
 #[test]
 fn the_constants_are_the_papers_in_both_notations() {
@@ -12,9 +12,9 @@ fn the_constants_are_the_papers_in_both_notations() {
 #[test]
 fn groups_and_places_are_the_formulas_in_exact_arithmetic() {
     let two_to_32 = 1u128 << 32;
-    let mut random = Random(1);
+    let mut random = Random::new(1);
     for _ in 0..20_000 {
-        let (tag, seed, choice) = (random.next() as u32, random.below(65_536), random.below(2));
+        let (tag, seed, choice) = (random.tag(), random.below(65_536), random.below(2));
         let (n, groups) = (1 + random.below(24), 1 + random.below(512));
         let a = (4 * seed as u128 + 2 * choice as u128 + 1) * 2_654_435_761 % two_to_32;
         assert_eq!(a % 2, 1);
@@ -31,9 +31,9 @@ fn groups_and_places_are_the_formulas_in_exact_arithmetic() {
 #[test]
 fn a_power_of_two_gives_odd_multiply_shift() {
     // Document 000, definition 5: (a x mod 2^u) div 2^(u - s), with u = 32.
-    let mut random = Random(2);
+    let mut random = Random::new(2);
     for _ in 0..2_000 {
-        let (tag, seed) = (random.next() as u32, random.below(65_536) as u32);
+        let (tag, seed) = (random.tag(), random.below(65_536) as u32);
         for bits in 1..=4 {
             let product = (multiplier(seed, 1) as u32).wrapping_mul(tag);
             assert_eq!(place_of(1 << bits, seed, 1, tag), product >> (32 - bits));

@@ -1,9 +1,10 @@
 //! Checking and lookup: built images, damaged images, and what lookup does not read.
 
-use crate::common::{refusal, with_line, Random, WHOLE_CASE_IMAGE};
+use crate::common::{refusal, with_line, WHOLE_CASE_IMAGE};
 use crate::lists::{DAMAGED_PAIR_LINES, DAMAGED_TAG_LINES};
 use model::hash::{group_of, place_of};
 use model::{check, image_of, lookup, Found};
+use random::Random;
 
 /// An image of lines, each without its line feed.
 fn image(lines: &[&str]) -> Vec<u8> {
@@ -15,9 +16,9 @@ fn image(lines: &[&str]) -> Vec<u8> {
 
 #[test]
 fn built_images_are_accepted_and_give_each_tag_its_slot() {
-    let mut random = Random(9);
+    let mut random = Random::new(9);
     for (groups, count) in [(1, 0), (1, 1), (1, 16), (2, 20), (40, 300), (512, 4_000)] {
-        let tags = random.tags(count, 1);
+        let tags = random.tags(count);
         let image = image_of(&tags, groups, 65_536).unwrap();
         assert_eq!(check(&image), Ok(()));
         for (slot, line) in image[11 * (1 + groups as usize)..].chunks(11).enumerate() {
@@ -26,7 +27,7 @@ fn built_images_are_accepted_and_give_each_tag_its_slot() {
             assert_eq!(lookup(&image, tag), Ok(Found::Number(slot as u32)));
         }
         for _ in 0..200 {
-            let tag = random.next() as u32;
+            let tag = random.tag();
             if !tags.contains(&tag) {
                 assert_eq!(lookup(&image, tag), Ok(Found::Unknown));
             }
@@ -282,8 +283,8 @@ fn lookup_refuses_with_12_at_the_line_of_a_slot_it_reads() {
 
 #[test]
 fn lookup_depends_on_no_other_byte() {
-    let mut random = Random(10);
-    let tags = random.tags(120, 1);
+    let mut random = Random::new(10);
+    let tags = random.tags(120);
     let image = image_of(&tags, 16, 65_536).unwrap();
     let starts: Vec<usize> = (0..16)
         .map(|group| {
@@ -297,7 +298,7 @@ fn lookup_depends_on_no_other_byte() {
         let tag = if round % 2 == 0 {
             tags[random.below(120)]
         } else {
-            random.next() as u32
+            random.tag()
         };
         let group = group_of(tag, 16) as usize;
         let size = starts[group + 1] - starts[group];
@@ -315,7 +316,7 @@ fn lookup_depends_on_no_other_byte() {
         let mut noise = image.clone();
         for (index, byte) in noise.iter_mut().enumerate() {
             if !read.contains(&(index / 11)) {
-                *byte = random.next() as u8;
+                *byte = random.next_u64() as u8;
             }
         }
         assert_eq!(lookup(&noise, tag), lookup(&image, tag));
@@ -326,8 +327,8 @@ fn lookup_depends_on_no_other_byte() {
 #[test]
 fn in_an_accepted_image_every_slot_is_found_and_no_lookup_refuses() {
     // Random changes of one byte: where checking still accepts, lookup agrees with the slots.
-    let mut random = Random(11);
-    let tags = random.tags(30, 1);
+    let mut random = Random::new(11);
+    let tags = random.tags(30);
     let image = image_of(&tags, 6, 65_536).unwrap();
     let mut accepted = 0;
     for _ in 0..4_000 {
@@ -342,7 +343,7 @@ fn in_an_accepted_image_every_slot_is_found_and_no_lookup_refuses() {
             let tag = String::from_utf8_lossy(line).trim().parse().unwrap();
             assert_eq!(lookup(&changed, tag), Ok(Found::Number(slot as u32)));
         }
-        assert!(lookup(&changed, random.next() as u32).is_ok());
+        assert!(lookup(&changed, random.tag()).is_ok());
     }
     assert!(accepted > 100, "{accepted}");
 }
