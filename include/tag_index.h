@@ -1,6 +1,6 @@
 /* The C boundary of the two-choice tag index: building, checking and lookup.
  *
- * The functions stand in libboundary.a, for x86-64: `rt staticlib boundary` writes it to
+ * The functions stand in libtag_index.a, for x86-64: `rt staticlib tag_index` writes it to
  * target/staticlib/.
  *
  * What a caller owes, and nothing else: each pointer and length is a valid range of memory, the

@@ -7,7 +7,7 @@ use std::path::{Path, PathBuf};
 use std::{env, process};
 
 /// The library's name, as in Cargo.toml under `links`; the archive is `lib` and the name.
-const LIBRARY: &str = "boundary";
+const LIBRARY: &str = "tag_index";
 
 fn main() {
     println!("cargo:rerun-if-changed=build.rs");
@@ -22,7 +22,7 @@ fn main() {
     if !library.is_file() {
         eprintln!(
             "tag_index: there is no {}.\n\
-             `rt staticlib boundary`, run at the repository's root, makes it; \
+             `rt staticlib tag_index`, run at the repository's root, makes it; \
              TAG_INDEX_LIB_DIR names another directory to take it from.",
             library.display()
         );

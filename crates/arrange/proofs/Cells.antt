@@ -11,7 +11,7 @@ use borrow.Author.Tests.{ltb-true, ltb-false}
 use Rattle.hash.specs.Formula.{hashed, multiplier}
 use Rattle.group.specs.Group.{taken}
 use Rattle.insertion.specs.WordBits.{choiceIn}
-use Rattle.building.specs.GroupSlots.{groupSlots}
+use Rattle.numbering.specs.GroupSlots.{groupSlots}
 use Rattle.arrange.specs.Arrange.{Arrangeable}
 use Rattle.arrange.specs.PlaceLaws.{placeWith, place-computed, place-fits, places-apart, slots-of-places}
 

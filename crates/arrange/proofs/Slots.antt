@@ -8,8 +8,8 @@ use lib.ListN.{length, getD, take, drop, length-take, length-drop}
 use lib.Seq.{take-at, drop-at}
 use borrow.Rule.Slice.PartMut.{putMid, post-is}
 use Rattle.group.specs.Group.{taken}
-use Rattle.building.specs.Parts.{partStart, partOf}
-use Rattle.building.specs.GroupSlots.{groupSlots}
+use Rattle.numbering.specs.Parts.{partStart, partOf}
+use Rattle.numbering.specs.GroupSlots.{groupSlots}
 use Rattle.arrange.specs.Arrange.{Arrangeable, AllArrangeable, slotsOfPart, allSlots}
 use Rattle.arrange.specs.PartsLaws.{part-length}
 use Rattle.arrange.specs.SlotsLaws.{slots-none, slots-more, slots-length, slots-kept}

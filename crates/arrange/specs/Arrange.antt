@@ -10,8 +10,8 @@ use Rattle.filling.specs.Least.{feasible}
 use Rattle.filling.specs.Word.{wordOf}
 use Rattle.group.specs.Group.{groupUnder, taken}
 use Rattle.lists.specs.UpTo.{upTo}
-use Rattle.building.specs.Parts.{partOf, Parts}
-use Rattle.building.specs.GroupSlots.{groupSlots}
+use Rattle.numbering.specs.Parts.{partOf, Parts}
+use Rattle.numbering.specs.GroupSlots.{groupSlots}
 
 -- A group that some sequence fills under the seed, the word of the sequence taken, and as many cells as there are tags.
 -- The empty group is one.

@@ -4,7 +4,7 @@ use mathlib.Core.Path.{_≡_}
 use mathlib.Core.List.{List}
 use native.Mathlib.Omega.{arith}
 use lib.ListN.{length, getD, length-take, length-drop}
-use Rattle.building.specs.Parts.{partStart, partOf, Parts}
+use Rattle.numbering.specs.Parts.{partStart, partOf, Parts}
 
 module _ {groups : ℕ} {ordered ends : List ℕ} (p : Parts groups ordered ends) where
   -- Every part begins within the ordered tags, and so does what comes after the last.

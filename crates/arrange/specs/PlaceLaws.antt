@@ -22,9 +22,9 @@ use Rattle.insertion.specs.WordBits.{choiceIn}
 use Rattle.insertion.specs.WordBitsLaws.{choice-shifted}
 use Rattle.lists.specs.UpTo.{upTo}
 use Rattle.lists.specs.UpToLaws.{upTo-length, upTo-at}
-use Rattle.building.specs.Number.{choiceOf, placeIn, tagNumbered}
-use Rattle.building.specs.NumberLaws.{ImageOf, place-apart, place-inside, tagNumbered-is}
-use Rattle.building.specs.GroupSlots.{groupSlots}
+use Rattle.numbering.specs.Number.{choiceOf, placeIn, tagNumbered}
+use Rattle.numbering.specs.NumberLaws.{ImageOf, place-apart, place-inside, tagNumbered-is}
+use Rattle.numbering.specs.GroupSlots.{groupSlots}
 use Rattle.arrange.specs.Arrange.{Arrangeable}
 
 -- The choice of the tag with index i is the choice with index i.

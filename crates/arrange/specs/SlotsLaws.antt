@@ -6,9 +6,9 @@ use native.Mathlib.Omega.{arith}
 use lib.ListN.{length, getD, drop, length-append, length-drop}
 use Rattle.lists.specs.UpTo.{upTo}
 use Rattle.lists.specs.UpToLaws.{flatten-more}
-use Rattle.building.specs.Parts.{partStart, partOf, Parts}
+use Rattle.numbering.specs.Parts.{partStart, partOf, Parts}
 use Rattle.arrange.specs.Arrange.{slotsOfPart, allSlots}
-use Rattle.building.specs.SlotsLaws.{slots-length as groupSlots-length}
+use Rattle.numbering.specs.SlotsLaws.{slots-length as groupSlots-length}
 use Rattle.arrange.specs.PartsLaws.{start-inside, part-length}
 
 module _ (ordered ends seeds : List ℕ) where

@@ -6,8 +6,8 @@ ghost use Prim.Native.Nat.{_<_};
 ghost use lib.ListN.{length, drop};
 ghost use Rattle.group.specs.Group.{taken};
 ghost use Rattle.insertion.specs.WordBits.{choiceIn};
-ghost use Rattle.building.specs.Parts.{partStart};
-ghost use Rattle.building.specs.GroupSlots.{groupSlots};
+ghost use Rattle.numbering.specs.Parts.{partStart};
+ghost use Rattle.numbering.specs.GroupSlots.{groupSlots};
 ghost use Rattle.arrange.specs.Arrange.{Arrangeable, AllArrangeable, allSlots};
 
 // Writes the slots of all groups, one group's after the other's; the cells after them stay. Part g of the tags, in the order of the

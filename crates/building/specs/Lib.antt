@@ -1,11 +1,4 @@
-pub mod Members
-pub mod MembersLaws
-pub mod Number
-pub mod NumberLaws
-pub mod Parts
-pub mod GroupSlots
-pub mod SlotsLaws
-pub mod Building
-pub mod Admitted
-pub mod BuildingLaws
-pub mod FromText
+pub mod Answer
+pub mod Arrays
+pub mod ArraysLaws
+pub mod PromiseLaws

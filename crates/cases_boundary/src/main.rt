@@ -12,18 +12,18 @@ fn answer(name: &[u8], r: u64) {
 // Builds from a text into a buffer of 77 bytes, and prints the answer and the buffer.
 fn build(name: &[u8], text: &[u8]) {
     let mut image = [b'.'; 77];
-    answer(name, boundary::tag_index_build(text, &mut image));
+    answer(name, tag_index::tag_index_build(text, &mut image));
     report::words(&image);
     report::words(b"\n");
 }
 
 // Prints what checking answers, and lookups of the tags 1 to 4.
 fn image(name: &[u8], image: &[u8]) {
-    answer(name, boundary::tag_index_check(image));
-    answer(b"  lookup of 1", boundary::tag_index_lookup(image, 1));
-    answer(b"  lookup of 2", boundary::tag_index_lookup(image, 2));
-    answer(b"  lookup of 3", boundary::tag_index_lookup(image, 3));
-    answer(b"  lookup of 4", boundary::tag_index_lookup(image, 4));
+    answer(name, tag_index::tag_index_check(image));
+    answer(b"  lookup of 1", tag_index::tag_index_lookup(image, 1));
+    answer(b"  lookup of 2", tag_index::tag_index_lookup(image, 2));
+    answer(b"  lookup of 3", tag_index::tag_index_lookup(image, 3));
+    answer(b"  lookup of 4", tag_index::tag_index_lookup(image, 4));
 }
 
 // The whole case, and each refusal of building from a text that fits a line of this file.
@@ -60,17 +60,17 @@ fn long_texts() {
     number_lines(&mut longest);
     answer(
         b"5956 tags",
-        boundary::tag_index_build(&longest, &mut image),
+        tag_index::tag_index_build(&longest, &mut image),
     );
     longest[65526] = b' ';
     answer(
         b"last of 5957 lines malformed",
-        boundary::tag_index_build(&longest, &mut image),
+        tag_index::tag_index_build(&longest, &mut image),
     );
     let longer = [b' '; 65528];
     answer(
         b"65528 bytes",
-        boundary::tag_index_build(&longer, &mut image),
+        tag_index::tag_index_build(&longer, &mut image),
     );
 }
 

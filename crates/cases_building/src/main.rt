@@ -1,6 +1,6 @@
 // Runs cases of building: worked values 10, 11 and 12, each refusal and which of two comes first, and images byte by byte, with what
 // checking and lookup say of them.
-use build::BuildAnswer;
+use building::BuildAnswer;
 use checking::CheckAnswer;
 use lookup::LookupAnswer;
 
@@ -57,7 +57,7 @@ fn build_into(tags: &[u32], groups: u32, limit: u32, room: usize, buffer: &mut [
     if buffer.len() < room {
         return 0;
     }
-    match build::build(tags, groups, limit, &mut buffer[..room]) {
+    match building::build(tags, groups, limit, &mut buffer[..room]) {
         BuildAnswer::Built(size) => {
             report::number(size as u64);
             report::words(b" bytes\n");

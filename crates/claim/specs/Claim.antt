@@ -5,8 +5,8 @@ use mathlib.Core.List.{List}
 use Rattle.refusal.specs.Outcome.{Outcome, answered, followedBy}
 use Rattle.lists.specs.Occurs.{occurs}
 use Rattle.image.specs.Lookup.{Found, number, unknown}
-use Rattle.building.specs.Number.{numberOf}
-use Rattle.building.specs.Building.{seedTaken, choicesTaken, buildingOf}
+use Rattle.numbering.specs.Number.{numberOf}
+use Rattle.numbering.specs.Building.{seedTaken, choicesTaken, buildingOf}
 
 -- "lookup in the written image answers the tag's number if it is in the list, and unknown if it is not".
 unfoldable pub foundIn : List ℕ → ℕ → ℕ → ℕ → Found

@@ -9,9 +9,9 @@ use Rattle.refusal.specs.Limits.{tagEnd}
 use Rattle.refusal.specs.Outcome.{answered, refused, followedBy}
 use Rattle.lists.specs.Occurs.{occurs}
 use Rattle.image.specs.Lookup.{lookupOf}
-use Rattle.building.specs.Building.{imageOf, buildingOf, bufferAfter}
-use Rattle.building.specs.BuildingLaws.{image-length, buffer-written, answered-size}
-use Rattle.built.specs.Condition3Theorem.{image-written, looked-up}
+use Rattle.numbering.specs.Building.{imageOf, buildingOf, bufferAfter}
+use Rattle.numbering.specs.BuildingLaws.{image-length, buffer-written, answered-size}
+use Rattle.condition3_theorem.specs.Condition3Theorem.{image-written, looked-up}
 use Rattle.claim.specs.Claim.{foundIn, claimOf}
 
 module _ (tags : List ℕ) (groups limit : ℕ) (before : List ℕ) (tag : ℕ) where

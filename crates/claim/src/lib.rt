@@ -1,11 +1,11 @@
 // Condition 3 of the two real functions: building, and then lookup in what building wrote.
 mod worked;
 
-use build::BuildAnswer;
+use building::BuildAnswer;
 use lookup::LookupAnswer;
 ghost use mathlib.Core.Path.{_≡_};
 ghost use lib.ListN.{length};
-ghost use Rattle.building.specs.Building.{buildingOf, bufferAfter};
+ghost use Rattle.numbering.specs.Building.{buildingOf, bufferAfter};
 ghost use Rattle.condition3.specs.Condition3.{Condition3};
 ghost use Rattle.lookup.specs.Answer.{lookupOutcome};
 ghost use Rattle.claim.specs.Claim.{claimOf};
@@ -24,7 +24,7 @@ pub fn build_then_look_up(
     ensures condition3 { λ _. ⌜ Condition3 (now (tags .entry)) groups limit (length (now (buffer .entry)))
         (buildingOf (now (tags .entry)) groups limit (length (now (buffer .entry)))) (now (buffer .exit)) ⌝ }
 {
-    match build::build(tags, groups, limit, buffer) {
+    match building::build(tags, groups, limit, buffer) {
         BuildAnswer::Built(size) => lookup::lookup(&buffer[..size], tag),
         BuildAnswer::Refused(refusal) => LookupAnswer::Refused(refusal),
     }

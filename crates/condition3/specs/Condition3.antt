@@ -15,8 +15,8 @@ use Rattle.filling.specs.Filling.{Fills}
 use Rattle.filling.specs.Least.{NotAfter}
 use Rattle.group.specs.Group.{groupUnder}
 use Rattle.image.specs.Lookup.{number, unknown, lookupOf}
-use Rattle.building.specs.Members.{members, startOf}
-use Rattle.building.specs.Number.{numberOf}
+use Rattle.numbering.specs.Members.{members, startOf}
+use Rattle.numbering.specs.Number.{numberOf}
 
 -- The places of group g's tags under a seed: a sequence that fills them gives each tag a place of its own.
 abbrev pub GroupFills : ℕ → List ℕ → ℕ → ℕ → List Bool → Type 0

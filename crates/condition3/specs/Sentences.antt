@@ -22,8 +22,8 @@ use Rattle.filling.specs.Least.{NotAfter}
 use Rattle.group.specs.Group.{groupUnder, leastSeed}
 use Rattle.group.specs.GroupLaws.{leastSeed-some, leastSeed-none}
 use Rattle.image.specs.Lookup.{number, unknown, lookupOf}
-use Rattle.building.specs.Members.{members, startOf}
-use Rattle.building.specs.Number.{placeIn, numberOf}
+use Rattle.numbering.specs.Members.{members, startOf}
+use Rattle.numbering.specs.Number.{placeIn, numberOf}
 use Rattle.condition3.specs.Condition3.{Condition3, Accepted, EarlierChecks}
 
 -- A sequence of choices that "makes a seed … give each of its tags a place of its own"; and that there is none.

@@ -4,7 +4,7 @@ use mathlib.Core.List.{List}
 use Prim.Native.Nat.{ℕ}
 use Rattle.refusal.specs.Outcome.{Outcome, answered}
 use Rattle.list.specs.Reading.{Listed}
-use Rattle.building.specs.FromText.{listFromText}
+use Rattle.numbering.specs.FromText.{listFromText}
 use Rattle.condition3.specs.Condition3.{Condition3}
 
 -- Condition 3, for the list that a text states: of building's answer for a buffer of `room` bytes, and of the bytes left. A text that

@@ -12,8 +12,8 @@ use Rattle.refusal.specs.ChecksLaws.{false-of-met}
 use Rattle.refusal.specs.PlaceLaws.{PlaceBelow, below-checks, below-followed, met-below, first-below}
 use Rattle.group.specs.Ascending.{limitCheck, ascendingCheck}
 use Rattle.list.specs.Reading.{lineCount, readingChecks, readingOf}
-use Rattle.building.specs.Building.{buildingChecks, buildingOf}
-use Rattle.building.specs.FromText.{listFromText, buildingFromText}
+use Rattle.numbering.specs.Building.{buildingChecks, buildingOf}
+use Rattle.numbering.specs.FromText.{listFromText, buildingFromText}
 
 -- A text of at most 65,527 bytes has at most 5,957 lines.
 abbrev pub textLines : ℕ

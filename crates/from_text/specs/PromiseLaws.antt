@@ -14,8 +14,8 @@ use Rattle.refusal.specs.Checks.{met, inOrder}
 use Rattle.list.specs.Reading.{Listed, readingOf, cellsAfter}
 use Rattle.list.specs.Answer.{ListHead, headOf}
 use Rattle.list.specs.ReadingLaws.{read-as}
-use Rattle.building.specs.FromText.{listFromText, buildingFromText, bufferOfList, bufferFromText}
-use Rattle.build.specs.PromiseLaws.{Promised}
+use Rattle.numbering.specs.FromText.{listFromText, buildingFromText, bufferOfList, bufferFromText}
+use Rattle.building.specs.PromiseLaws.{Promised}
 use Rattle.from_text.specs.Condition3.{TextCondition3}
 
 -- The answer, the buffer, and Condition 3 of both: for an answer `outcome` that left `after`.

@@ -1,12 +1,12 @@
 // Building from a list text: the text's list is read, and built.
-use build::BuildAnswer;
+use building::BuildAnswer;
 use list::ListAnswer;
 use refusal::Reason;
 use refusal::Refusal;
 ghost use mathlib.Core.Path.{_≡_};
 ghost use lib.ListN.{length};
-ghost use Rattle.build.specs.Answer.{buildOutcome};
-ghost use Rattle.building.specs.FromText.{buildingFromText, bufferFromText};
+ghost use Rattle.building.specs.Answer.{buildOutcome};
+ghost use Rattle.numbering.specs.FromText.{buildingFromText, bufferFromText};
 ghost use Rattle.from_text.specs.Condition3.{TextCondition3};
 
 // Building from a list text, for any text and any buffer. A text above 65,527 bytes is refused unexamined.
@@ -24,7 +24,7 @@ pub fn build_from_text(text: &[u8], buffer: &mut [u8]) -> BuildAnswer
     let mut cells = [0u32; 4096];
     match list::read_list(text, &mut cells) {
         ListAnswer::Listed(groups, limit, count) => {
-            build::build(&cells[..count], groups, limit, buffer)
+            building::build(&cells[..count], groups, limit, buffer)
         }
         ListAnswer::Refused(refusal) => BuildAnswer::Refused(refusal),
     }

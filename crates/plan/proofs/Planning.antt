@@ -11,7 +11,7 @@ use Rattle.lists.specs.First.{first, isSome}
 use Rattle.lists.specs.SearchLaws.{Searched, searched-start, searched-turn, searched-found, searched-done}
 use Rattle.group.specs.Placing.{Placement, placingOf}
 use Rattle.lists.specs.UpTo.{upTo}
-use Rattle.building.specs.Parts.{partStart, partOf}
+use Rattle.numbering.specs.Parts.{partStart, partOf}
 use Rattle.plan.specs.Plan.{unseeded, partSeed, partWord, cellsPlanned, seedsPlanned, wordsPlanned, Plannable}
 use Rattle.plan.specs.PlanLaws.{placed-seed, refused-seedless, planned-more}
 

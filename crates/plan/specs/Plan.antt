@@ -9,7 +9,7 @@ use Rattle.group.specs.Group.{leastSeed}
 use Rattle.group.specs.Placing.{placementOf}
 use Rattle.group.specs.Ascending.{Ascending}
 use Rattle.lists.specs.UpTo.{upTo}
-use Rattle.building.specs.Parts.{partOf, Parts}
+use Rattle.numbering.specs.Parts.{partOf, Parts}
 
 -- No seed below the limit serves the group's part.
 unfoldable pub unseeded : List ℕ → List ℕ → ℕ → ℕ → Bool

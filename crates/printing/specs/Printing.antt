@@ -9,8 +9,8 @@ use Rattle.refusal.specs.Outcome.{Outcome, answered, refused, answeredBy, follo
 use Rattle.text.specs.Line.{pairLine}
 use Rattle.list.specs.Reading.{Listed}
 use Rattle.image.specs.Sheet.{imageLength}
-use Rattle.building.specs.Building.{buildingOf, imageOf}
-use Rattle.building.specs.FromText.{listFromText}
+use Rattle.numbering.specs.Building.{buildingOf, imageOf}
+use Rattle.numbering.specs.FromText.{listFromText}
 
 -- The image that a list states, in a buffer that is long enough for every image, so that 9 never comes.
 unfoldable pub imageOfList : Listed → Outcome (List ℕ)

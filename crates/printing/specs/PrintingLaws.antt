@@ -16,9 +16,9 @@ use Rattle.text.specs.LineLaws.{pairLine-length}
 use Rattle.list.specs.Reading.{Listed}
 use Rattle.image.specs.Sheet.{imageLength}
 use Rattle.image.specs.SheetLaws.{image-longest}
-use Rattle.building.specs.Building.{buildingChecks, buildingOf}
-use Rattle.building.specs.BuildingLaws.{image-length, building-groups, building-limit, building-many, buffer-kept, buffer-written, answered-size}
-use Rattle.building.specs.FromText.{listFromText, buildingFromText, bufferOfList, bufferFromText}
+use Rattle.numbering.specs.Building.{buildingChecks, buildingOf}
+use Rattle.numbering.specs.BuildingLaws.{image-length, building-groups, building-limit, building-many, buffer-kept, buffer-written, answered-size}
+use Rattle.numbering.specs.FromText.{listFromText, buildingFromText, bufferOfList, bufferFromText}
 use Rattle.printing.specs.Printing.{imageOfList, outputOf, printed, longestImage, printedCount, printedInto}
 
 -- "at most 50,699 bytes".

@@ -1,5 +1,5 @@
 // The index printer: the image of a list text, or one line with the refusal.
-use build::BuildAnswer;
+use building::BuildAnswer;
 ghost use mathlib.Core.Path.{_≡_};
 ghost use lib.ListN.{length};
 ghost use Rattle.printing.specs.Printing.{printedCount, printedInto};

@@ -29,9 +29,9 @@ use Rattle.group.specs.Ascending.{limitCheck, notAbove, ascendingCheck}
 use Rattle.group.specs.Placing.{placingChecks, placementOf, placingOf}
 use Rattle.lists.specs.UpTo.{upTo}
 use Rattle.image.specs.Sheet.{linesOf, bytesOf, imageLength}
-use Rattle.building.specs.Members.{select, members, startOf}
-use Rattle.building.specs.Number.{choiceOf, placeIn, numberOf, tagNumbered}
-use Rattle.building.specs.Building.{sheetOf, seedTaken, choicesTaken, imageOf, buildingChecks, buildingOf, written, bufferAfter}
+use Rattle.numbering.specs.Members.{select, members, startOf}
+use Rattle.numbering.specs.Number.{choiceOf, placeIn, numberOf, tagNumbered}
+use Rattle.numbering.specs.Building.{sheetOf, seedTaken, choicesTaken, imageOf, buildingChecks, buildingOf, written, bufferAfter}
 use Rattle.worked.specs.Row.{Claim, Holds, AllHold, RowHolds, Every}
 use Rattle.worked.specs.Table.{value1, value2, value3, value4, value5, value6, value7, value8, value9, table, unreachable}
 

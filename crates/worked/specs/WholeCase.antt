@@ -24,12 +24,12 @@ use Rattle.image.specs.Sheet.{linesOf, bytesOf, imageLength}
 use Rattle.image.specs.View.{viewOf, countIn, groupsIn, startIn, seedIn, slotLineIn, slotIn, endIn, faulty, candidateIn}
 use Rattle.image.specs.Checking.{openingChecks, malformedIn, groupOfSlot, misplaced, repeated, checkingChecks, checkingOf}
 use Rattle.image.specs.Lookup.{number, groupChecks, lookupChecks, atSlot, lookupInGroup, lookupOf}
-use Rattle.building.specs.Members.{select, members, startOf}
-use Rattle.building.specs.Number.{choiceOf, placeIn, numberOf, tagNumbered}
-use Rattle.building.specs.Building.{sheetOf, seedTaken, choicesTaken, imageOf, buildingChecks, buildingOf}
-use Rattle.building.specs.FromText.{listFromText, buildingFromText}
+use Rattle.numbering.specs.Members.{select, members, startOf}
+use Rattle.numbering.specs.Number.{choiceOf, placeIn, numberOf, tagNumbered}
+use Rattle.numbering.specs.Building.{sheetOf, seedTaken, choicesTaken, imageOf, buildingChecks, buildingOf}
+use Rattle.numbering.specs.FromText.{listFromText, buildingFromText}
 use Rattle.printing.specs.Printing.{imageOfList, outputOf, printed}
-use Rattle.boundary.specs.Answer64.{answer64, foundNumber, buildAnswer, checkAnswer, lookupAnswer}
+use Rattle.tag_index.specs.Answer64.{answer64, foundNumber, buildAnswer, checkAnswer, lookupAnswer}
 
 -- `unfolding computed` opens every definition that these compute through.
 computed : ℕ

@@ -11,7 +11,7 @@ use Rattle.lists.specs.UpTo.{upTo}
 use Rattle.image.specs.Sheet.{bytesOf, imageLength}
 use Rattle.lists.specs.UpToLaws.{upTo-length, flatten-more}
 use Rattle.image.specs.SheetLaws.{upTo-lines, bytes-length}
-use Rattle.building.specs.Parts.{partStart}
+use Rattle.numbering.specs.Parts.{partStart}
 use Rattle.write.specs.Stated.{statedSheet, statedLine, Writable}
 use Rattle.write.specs.StatedLaws.{line-length, line-group, line-slot, stated-bytes}
 use Rattle.lists.specs.Written.{writtenAt}

@@ -4,7 +4,7 @@ use mathlib.Core.Path.{_≡_}
 use mathlib.Core.List.{List}
 use Rattle.refusal.specs.Limits.{tagsMax, groupsMax}
 use Rattle.image.specs.Sheet.{Sheet, imageLength}
-use Rattle.building.specs.Parts.{partStart}
+use Rattle.numbering.specs.Parts.{partStart}
 use Rattle.arrange.specs.Arrange.{AllArrangeable, allSlots}
 use Rattle.write.specs.Stated.{statedSheet}
 

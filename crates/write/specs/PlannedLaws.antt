@@ -5,7 +5,7 @@ use mathlib.Core.List.{List, _++_}
 use native.Mathlib.Omega.{arith}
 use lib.ListN.{length, drop, length-append, List·getD-append}
 use Rattle.image.specs.Sheet.{bytesOf}
-use Rattle.building.specs.Parts.{partStart}
+use Rattle.numbering.specs.Parts.{partStart}
 use Rattle.arrange.specs.Arrange.{allSlots}
 use Rattle.arrange.specs.PartsLaws.{start-inside}
 use Rattle.arrange.specs.SlotsLaws.{slots-length}

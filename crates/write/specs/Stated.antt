@@ -7,7 +7,7 @@ use lib.ListN.{length, getD}
 use Rattle.refusal.specs.Limits.{tagsMax, groupsMax}
 use Rattle.text.specs.Line.{pairLine, tagLine}
 use Rattle.image.specs.Sheet.{Sheet, imageLength}
-use Rattle.building.specs.Parts.{partStart}
+use Rattle.numbering.specs.Parts.{partStart}
 
 -- The numbers that the arrays state: group g begins where the group before it ends; its seed is entry g of the seeds, and the tag of
 -- slot j is entry j of the slots.

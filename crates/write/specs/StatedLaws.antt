@@ -12,7 +12,7 @@ use Rattle.text.specs.LineLaws.{pairLine-length, tagLine-length}
 use Rattle.lists.specs.UpTo.{upTo}
 use Rattle.image.specs.Sheet.{Sheet, groupLineOf, slotLineOf, linesOf, bytesOf}
 use Rattle.lists.specs.UpToLaws.{upTo-append, upTo-agree}
-use Rattle.building.specs.Parts.{partStart}
+use Rattle.numbering.specs.Parts.{partStart}
 use Rattle.write.specs.Stated.{statedSheet, statedLine}
 
 -- Two sheets state the same numbers: the same N and B, for each group the same start and seed, and for each slot the same tag.

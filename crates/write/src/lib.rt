@@ -5,7 +5,7 @@ ghost use Prim.Native.Nat.{_+_, _*_, _≤_, _<_};
 ghost use lib.ListN.{length, drop};
 ghost use Rattle.text.specs.Line.{lineLength};
 ghost use Rattle.image.specs.Sheet.{bytesOf, imageLength};
-ghost use Rattle.building.specs.Parts.{partStart};
+ghost use Rattle.numbering.specs.Parts.{partStart};
 ghost use Rattle.write.specs.Stated.{statedSheet, statedLine, EndsSmall, Writable};
 ghost use Rattle.write.specs.Planned.{plannedSheet, Planned};
 ghost use Rattle.lists.specs.Written.{writtenAt};

@@ -3,8 +3,8 @@
 use mathlib.Core.Path.{sym, _∙_, ap}
 use native.Mathlib.Omega.{arith}
 use lib.Seq.{length-take-le}
-use Rattle.build.specs.Answer.{buildOutcome}
-use Rattle.build.specs.PromiseLaws.{tags-of-words}
+use Rattle.building.specs.Answer.{buildOutcome}
+use Rattle.building.specs.PromiseLaws.{tags-of-words}
 use Rattle.claim.specs.ClaimLaws.{claim-refused, written-within, claim-found}
 use borrow.Author.Needs.{needs}
 use Rattle.claim.proofs.build_then_look_up.Statement.{statement}

@@ -3,7 +3,7 @@
 use borrow.Author.Needs.{needs}
 use mathlib.Core.Path.{sym, _∙_, ap}
 use native.Mathlib.Omega.{arith}
-use Rattle.build.specs.Answer.{buildOutcome}
+use Rattle.building.specs.Answer.{buildOutcome}
 use Rattle.refusal.specs.PlaceLaws.{place-below}
 use Rattle.from_text.specs.PlaceLaws.{textLines, from-text-place}
 use Rattle.printing.specs.PrintingLaws.{longest-is, printed-nothing, printed-built, printed-refused}

@@ -19,9 +19,9 @@ use Rattle.group.specs.Group.{bothPlaces, candidates, leastSeed, taken}
 use Rattle.group.specs.Ascending.{limitCheck, notAbove, ascendingCheck}
 use Rattle.image.specs.Sheet.{imageLength}
 use Rattle.image.specs.Lookup.{number, unknown}
-use Rattle.building.specs.Members.{select, members, startOf}
-use Rattle.building.specs.Number.{choiceOf, placeIn, numberOf}
-use Rattle.building.specs.Building.{seedTaken, choicesTaken, buildingChecks, buildingOf}
+use Rattle.numbering.specs.Members.{select, members, startOf}
+use Rattle.numbering.specs.Number.{choiceOf, placeIn, numberOf}
+use Rattle.numbering.specs.Building.{seedTaken, choicesTaken, buildingChecks, buildingOf}
 use Rattle.claim.specs.Claim.{foundIn, claimOf}
 use Rattle.claim.proofs.worked.number_of_one.Statement.{statement}
 use Rattle.claim.proofs.worked.number_of_one.Tie as tie

@@ -17,7 +17,7 @@ use Rattle.filling.specs.Word.{choiceNumber, wordOf}
 use Rattle.group.specs.Group.{bothPlaces, candidates, leastSeed, taken}
 use Rattle.group.specs.Ascending.{Ascending}
 use Rattle.group.specs.Placing.{placementOf}
-use Rattle.building.specs.Parts.{partStart, partOf}
+use Rattle.numbering.specs.Parts.{partStart, partOf}
 use Rattle.plan.specs.Plan.{unseeded, partSeed, partWord, cellsPlanned, Plannable}
 use Rattle.plan.specs.PlanLaws.{planned-at}
 use Rattle.plan.proofs.worked.plan_of_one_and_three.Statement.{statement}

@@ -1,4 +1,0 @@
-pub mod Answer
-pub mod Arrays
-pub mod ArraysLaws
-pub mod PromiseLaws

@@ -1,0 +1,270 @@
+-- Condition 3 holds of building as it is defined, for every list, group count, seed limit and buffer. Assumes nothing.
+use mathlib.Core.Path.{_≡_, refl, sym, _∙_}
+use mathlib.Core.Logic.{inl, inr}
+use mathlib.Core.Bool.{Bool, true, false, cond}
+use mathlib.Core.List.{List, [], _∷_}
+use mathlib.Core.Option.{Option, none, some}
+use Prim.Native.Nat.{ℕ, _+_, _-_, _*_, _<_}
+use native.Mathlib.Omega.{arith}
+use lib.Dec.{ltb}
+use lib.ListN.{length, take, drop}
+use lib.Seq.{take-at}
+use borrow.Author.Tests.{ltb-false, le-ltb, not-true}
+use Rattle.refusal.specs.Limits.{tagEnd, tagsMax, groupsMax, groupMax, limitMax, outside}
+use Rattle.refusal.specs.LimitsLaws.{outside-not, inside}
+use Rattle.refusal.specs.Outcome.{answered, refused}
+use Rattle.lists.specs.First.{first, isSome}
+use Rattle.lists.specs.FirstLaws.{first-some, first-none, first-found, first-out, none-of-isSome}
+use Rattle.refusal.specs.Checks.{Check, met, inOrder, Pass}
+use Rattle.refusal.specs.ChecksLaws.{met-false, false-of-met, Met, inOrder-pass, inOrder-answered, inOrder-refused, inOrder-append}
+use Rattle.text.specs.Line.{lineLength}
+use Rattle.lists.specs.Occurs.{occurs}
+use Rattle.group.specs.Group.{leastSeed, taken}
+use Rattle.group.specs.GroupLaws.{LeastSeed, leastSeed-none}
+use Rattle.group.specs.Ascending.{limitCheck, ascendingCheck}
+use Rattle.group.specs.AscendingLaws.{ascending-of-check, check-of-ascending}
+use Rattle.image.specs.Sheet.{Sheet, imageLength}
+use Rattle.image.specs.SheetLaws.{group-at}
+use Rattle.image.specs.View.{viewOf}
+use Rattle.image.specs.Checking.{checkingChecks, checkingOf}
+use Rattle.image.specs.CheckedLookupLaws.{pass-of-sound}
+use Rattle.image.specs.Lookup.{number, unknown, lookupOf}
+use Rattle.numbering.specs.Members.{members}
+use Rattle.numbering.specs.MembersLaws.{start-all, start-before}
+use Rattle.numbering.specs.Number.{numberOf, tagNumbered}
+use Rattle.numbering.specs.NumberLaws.{number-below, number-apart, number-onto, AllFill, all-placed, tagNumbered-is}
+use Rattle.numbering.specs.Building.{sheetOf, seedTaken, choicesTaken, imageOf, tooLarge, seedless, buildingChecks, buildingOf, written, bufferAfter}
+use Rattle.numbering.specs.BuildingLaws.{image-length, seed-least, taken-fill}
+use Rattle.condition3_theorem.specs.BuiltLaws.{Reads, InRange, reads-back, built-sound, built-listed, built-unlisted}
+use Rattle.condition3.specs.Condition3.{NothingFills, HasSeed, LowestWithout, EarlierChecks, Accepted, Condition3}
+
+module _ (tags : List ℕ) (groups limit : ℕ) where
+  unseeded : (g : ℕ) → seedless groups tags limit g ≡ true → (s : ℕ) → s < limit → NothingFills groups tags g s
+  unseeded g e =
+      let own = members groups g tags in
+      leastSeed-none own limit (none-of-isSome (leastSeed own limit) (not-true (isSome (leastSeed own limit)) e))
+
+  -- The lowest group without a seed, by the first index that passes the test.
+  lowest-of-first : (g : ℕ) → first (seedless groups tags limit) groups ≡ some g → LowestWithout groups tags limit g
+  unfolding choicesTaken
+  lowest-of-first g e =
+      let at = first-some (seedless groups tags limit) groups e in
+      record {
+        group = at .below;
+        without = unseeded g (at .holds);
+        lower = λ h lt.
+            let has = seed-least groups tags limit h (at .lowest h lt) in
+            record { seed = seedTaken groups tags limit h; below = has .below; choices = choicesTaken groups tags limit h; fills = has .fills };
+      }
+
+  first-of-lowest : (g : ℕ) → LowestWithout groups tags limit g → first (seedless groups tags limit) groups ≡ some g
+  first-of-lowest g low = first-found (seedless groups tags limit) groups g (low .group) (here (seedless groups tags limit g) refl) (λ h lt. there h (low .lower h lt) (seedless groups tags limit h) refl)
+    where
+      here : (b : Bool) → seedless groups tags limit g ≡ b → seedless groups tags limit g ≡ true
+      here true e = e
+      here false e =
+          let has = seed-least groups tags limit g e in
+          absurd (low .without (seedTaken groups tags limit g) (has .below) (taken (members groups g tags) (seedTaken groups tags limit g)) (has .fills))
+
+      there : (h : ℕ) → HasSeed groups tags limit h → (b : Bool) → seedless groups tags limit h ≡ b → seedless groups tags limit h ≡ false
+      there h has true e = absurd (unseeded h e (has .seed) (has .below) (has .choices) (has .fills))
+      there h has false e = e
+
+  module _ (room : ℕ) where
+    -- The six checks before 7.
+    abbrev six : List Check
+    six =
+        (8, met (outside 1 groupsMax groups))
+        ∷ limitCheck limit
+        ∷ (5, met (ltb tagsMax (length tags)))
+        ∷ ascendingCheck tags
+        ∷ (9, met (ltb room (imageLength groups (length tags))))
+        ∷ (10, first (tooLarge groups tags) groups)
+        ∷ []
+
+    pass-of-earlier : EarlierChecks tags groups limit room → Pass six
+    unfolding limitCheck imageLength
+    pass-of-earlier h = (
+      met-false (outside-not 1 groupsMax groups (h .groups-legal .0) (h .groups-legal .1)),
+      (
+        met-false (outside-not 1 limitMax limit (h .limit-legal .0) (h .limit-legal .1)),
+        (
+          met-false (le-ltb tagsMax (length tags) (h .count-legal)),
+          (
+            check-of-ascending tags (h .ascending),
+            (
+              met-false (le-ltb room (lineLength * (1 + groups + length tags)) (h .fits)),
+              (
+                first-out (tooLarge groups tags) groups (λ g lt. le-ltb groupMax (length (members groups g tags)) (h .groups-small g lt)),
+                tt,
+              ),
+            ),
+          ),
+        ),
+      ),
+    )
+
+    earlier-of-pass : Pass six → EarlierChecks tags groups limit room
+    unfolding limitCheck imageLength
+    earlier-of-pass (eight, (four, (five, (order, (nine, (ten, end)))))) = record {
+      groups-legal = inside 1 groupsMax groups (false-of-met (outside 1 groupsMax groups) eight);
+      limit-legal = inside 1 limitMax limit (false-of-met (outside 1 limitMax limit) four);
+      count-legal = ltb-false tagsMax (length tags) (false-of-met (ltb tagsMax (length tags)) five);
+      ascending = ascending-of-check tags order;
+      fits = ltb-false room (lineLength * (1 + groups + length tags)) (false-of-met (ltb room (lineLength * (1 + groups + length tags))) nine);
+      groups-small = λ g lt. ltb-false groupMax (length (members groups g tags)) (first-none (tooLarge groups tags) groups ten g lt);
+    }
+
+    -- Where they pass, 7 decides.
+    seven-decides : EarlierChecks tags groups limit room
+        → buildingOf tags groups limit room ≡ inOrder ((7, first (seedless groups tags limit) groups) ∷ []) (answered (imageLength groups (length tags)))
+    unfolding buildingOf buildingChecks
+    seven-decides h = inOrder-append six ((7, first (seedless groups tags limit) groups) ∷ []) _ ∙ inOrder-pass six _ (pass-of-earlier h)
+
+    refused-of-lowest : EarlierChecks tags groups limit room → (g : ℕ) → LowestWithout groups tags limit g → buildingOf tags groups limit room ≡ refused 7 g
+    unfolding inOrder
+    refused-of-lowest h g low = seven-decides h ∙ rw (first-of-lowest g low)
+
+    answered-of-none : EarlierChecks tags groups limit room → ((g : ℕ) → LowestWithout groups tags limit g → ⊥)
+        → buildingOf tags groups limit room ≡ answered (11 * (1 + groups + length tags))
+    unfolding inOrder imageLength
+    answered-of-none h never = seven-decides h ∙ go (first (seedless groups tags limit) groups) refl
+      where
+        go : (o : Option ℕ) → first (seedless groups tags limit) groups ≡ o
+            → inOrder ((7, o) ∷ []) (answered (imageLength groups (length tags))) ≡ answered (11 * (1 + groups + length tags))
+        go none e = refl
+        go (some g) e = absurd (never g (lowest-of-first g e))
+
+    -- A refusal 7 comes from the last check.
+    first-of-seven : (g : ℕ) → buildingOf tags groups limit room ≡ refused 7 g → first (seedless groups tags limit) groups ≡ some g
+    unfolding buildingOf buildingChecks limitCheck ascendingCheck
+    first-of-seven g e = go (inOrder-refused (buildingChecks tags groups limit room) (imageLength groups (length tags)) e)
+      where
+        go : Met (buildingChecks tags groups limit room) 7 g → first (seedless groups tags limit) groups ≡ some g
+        go (inl m) = absurd (omega (arith, m .0))
+        go (inr (_, inl m)) = absurd (omega (arith, m .0))
+        go (inr (_, inr (_, inl m))) = absurd (omega (arith, m .0))
+        go (inr (_, inr (_, inr (_, inl m)))) = absurd (omega (arith, m .0))
+        go (inr (_, inr (_, inr (_, inr (_, inl m))))) = absurd (omega (arith, m .0))
+        go (inr (_, inr (_, inr (_, inr (_, inr (_, inl m)))))) = absurd (omega (arith, m .0))
+        go (inr (_, inr (_, inr (_, inr (_, inr (_, inr (_, inl m))))))) = m .1
+        go (inr (_, inr (_, inr (_, inr (_, inr (_, inr (_, inr (_, m)))))))) = absurd m
+
+    -- An accepted building, from the earlier checks and a seed for every group.
+    module _ (words : (t : ℕ) → occurs t tags ≡ true → t < tagEnd) (h : EarlierChecks tags groups limit room) (every : first (seedless groups tags limit) groups ≡ none) where
+      takes : (g : ℕ) → g < groups → LeastSeed (members groups g tags) limit (seedTaken groups tags limit g)
+      takes g lt = seed-least groups tags limit g (first-none (seedless groups tags limit) groups every g lt)
+
+      abbrev sheet : Sheet
+      sheet = sheetOf groups tags (seedTaken groups tags limit) (choicesTaken groups tags limit)
+
+      all-fill : AllFill groups tags (seedTaken groups tags limit) (choicesTaken groups tags limit)
+      all-fill = taken-fill groups tags limit (h .groups-legal .0) (check-of-ascending tags (h .ascending)) every
+
+      in-range : InRange (sheetOf groups tags (seedTaken groups tags limit) (choicesTaken groups tags limit))
+      unfolding sheetOf numberOf
+      in-range = record {
+        count = h .count-legal;
+        groups = h .groups-legal;
+        start = λ g lt. omega (arith, h .count-legal, start-before groups g groups tags (omega arith), start-all groups tags (h .groups-legal .0));
+        seed = λ g lt. omega (arith, (takes g lt) .below, h .limit-legal);
+        slot = λ j lt.
+            let f = numberOf groups tags (seedTaken groups tags limit) (choicesTaken groups tags limit) in
+            words (tagNumbered f tags j) ((tagNumbered-is f tags j (number-onto (all-placed all-fill) j lt)) .0);
+      }
+
+      reads : Reads (viewOf (imageOf groups tags limit)) (sheetOf groups tags (seedTaken groups tags limit) (choicesTaken groups tags limit))
+      unfolding imageOf
+      reads = reads-back sheet in-range
+
+      accepted-as : (size : ℕ) (after : List ℕ) → size ≡ 11 * (1 + groups + length tags) → take size after ≡ imageOf groups tags limit
+          → Accepted tags groups limit after size
+      unfolding choicesTaken lookupOf numberOf imageOf sheetOf
+      accepted-as size after whole e = record {
+        seed = seedTaken groups tags limit;
+        choices = choicesTaken groups tags limit;
+        whole = whole;
+        line = λ g lt. rw e (group-at sheet g lt);
+        below-limit = λ g lt. (takes g lt) .below;
+        fills = λ g lt. (takes g lt) .fills;
+        least = λ g lt. (takes g lt) .notAfter;
+        passed-over = λ g lt. (takes g lt) .passed;
+        number-below = number-below (all-placed all-fill);
+        number-once = λ j lt.
+            let r = number-onto (all-placed all-fill) j lt in
+            record {
+              tag = r .from;
+              listed = r .listed;
+              number-is = r .value;
+              only = λ t m same. number-apart (all-placed all-fill) t (r .from) m (r .listed) (same ∙ sym (r .value));
+            };
+        listed = λ t word m. rw e (built-listed reads all-fill (h .groups-small) t m);
+        unlisted = λ t word absent. rw e (built-unlisted reads all-fill (h .groups-small) t absent);
+      }
+
+-- What building writes is accepted by checking.
+pub built-checked : (tags : List ℕ) (groups limit room : ℕ) {size : ℕ} → ((t : ℕ) → occurs t tags ≡ true → t < tagEnd)
+    → buildingOf tags groups limit room ≡ answered size → checkingOf (imageOf groups tags limit) ≡ answered 0
+unfolding buildingOf buildingChecks checkingOf
+built-checked tags groups limit room words e = go (inOrder-answered (buildingChecks tags groups limit room) (answered (imageLength groups (length tags))) e)
+  where
+    go : {size : ℕ} → Pass (buildingChecks tags groups limit room) × (answered (imageLength groups (length tags)) ≡ answered size)
+        → inOrder {A = ℕ} (checkingChecks (viewOf (imageOf groups tags limit))) (answered 0) ≡ answered 0
+    go ((eight, (four, (five, (order, (nine, (ten, (seven, end))))))), answer) =
+        let h = earlier-of-pass tags groups limit room (eight, (four, (five, (order, (nine, (ten, tt)))))) in
+        let v = viewOf (imageOf groups tags limit) in
+        let sound = built-sound (reads tags groups limit room words h seven) (all-fill tags groups limit room words h seven) (h .groups-small) in
+        inOrder-pass (checkingChecks v) (answered 0) (pass-of-sound v sound)
+
+-- The buffer's first bytes after an accepted building are the image.
+pub image-written : (tags : List ℕ) (groups limit : ℕ) (before : List ℕ) (size : ℕ) → buildingOf tags groups limit (length before) ≡ answered size
+    → imageLength groups (length tags) ≡ size → take size (bufferAfter tags groups limit before) ≡ imageOf groups tags limit
+unfolding bufferAfter written
+image-written tags groups limit before size e same =
+    let image = imageOf groups tags limit in
+    rw e (take-at image (drop (length image) before) size (image-length groups tags limit ∙ same))
+
+-- The theorem: "Whatever list, group count, seed limit and buffer a site hands to building, all of this holds."
+pub condition3 : (tags : List ℕ) (groups limit : ℕ) (before : List ℕ) → ((t : ℕ) → occurs t tags ≡ true → t < tagEnd)
+    → Condition3 tags groups limit (length before) (buildingOf tags groups limit (length before)) (bufferAfter tags groups limit before)
+unfolding buildingOf buildingChecks imageLength
+condition3 tags groups limit before words = record {
+  accepted = λ size e. accept size e (inOrder-answered (buildingChecks tags groups limit room) (answered (imageLength groups (length tags))) e);
+  no-seed = λ g e. (lowest-of-first tags groups limit g (first-of-seven tags groups limit room g e)) .without;
+  refused-7 = λ h g. (
+    λ e. lowest-of-first tags groups limit g (first-of-seven tags groups limit room g e),
+    refused-of-lowest tags groups limit room h g,
+  );
+  otherwise = answered-of-none tags groups limit room;
+}
+  where
+    room : ℕ
+    room = length before
+
+    accept : (size : ℕ) → buildingOf tags groups limit room ≡ answered size
+        → Pass (buildingChecks tags groups limit room) × (answered (imageLength groups (length tags)) ≡ answered size)
+        → Accepted tags groups limit (bufferAfter tags groups limit before) size
+    accept size e ((eight, (four, (five, (order, (nine, (ten, (seven, end))))))), answer) =
+        let same : imageLength groups (length tags) ≡ size = cc in
+        let h = earlier-of-pass tags groups limit room (eight, (four, (five, (order, (nine, (ten, tt)))))) in
+        accepted-as tags groups limit room words h seven size (bufferAfter tags groups limit before) (sym same) (image-written tags groups limit before size e same)
+
+-- Lookup in the image that building writes, under the seeds and sequences that it takes.
+pub looked-up : (tags : List ℕ) (groups limit room : ℕ) {size : ℕ} → ((t : ℕ) → occurs t tags ≡ true → t < tagEnd)
+    → buildingOf tags groups limit room ≡ answered size → (t : ℕ) → lookupOf (imageOf groups tags limit) t
+    ≡ answered (cond (occurs t tags) (number (numberOf groups tags (seedTaken groups tags limit) (choicesTaken groups tags limit) t)) unknown)
+unfolding buildingOf buildingChecks lookupOf
+looked-up tags groups limit room words e t = go (inOrder-answered (buildingChecks tags groups limit room) (answered (imageLength groups (length tags))) e)
+  where
+    go : {size : ℕ} → Pass (buildingChecks tags groups limit room) × (answered (imageLength groups (length tags)) ≡ answered size)
+        → lookupOf (imageOf groups tags limit) t
+        ≡ answered (cond (occurs t tags) (number (numberOf groups tags (seedTaken groups tags limit) (choicesTaken groups tags limit) t)) unknown)
+    go ((eight, (four, (five, (order, (nine, (ten, (seven, end))))))), answer) = by (occurs t tags) refl
+      where
+        h : EarlierChecks tags groups limit room
+        h = earlier-of-pass tags groups limit room (eight, (four, (five, (order, (nine, (ten, tt))))))
+
+        by : (b : Bool) → occurs t tags ≡ b → lookupOf (imageOf groups tags limit) t
+            ≡ answered (cond (occurs t tags) (number (numberOf groups tags (seedTaken groups tags limit) (choicesTaken groups tags limit) t)) unknown)
+        by true m = rw m (built-listed (reads tags groups limit room words h seven) (all-fill tags groups limit room words h seven) (h .groups-small) t m)
+        by false m = rw m (built-unlisted (reads tags groups limit room words h seven) (all-fill tags groups limit room words h seven) (h .groups-small) t m)

@@ -1,0 +1,144 @@
+-- The 64-bit answers keep apart all outcomes that the three functions can come to: an answer is taken apart into its outcome.
+-- Assumes nothing.
+use mathlib.Core.Path.{_≡_, refl, sym, _∙_, ap}
+use mathlib.Core.Bool.{not}
+use mathlib.Core.List.{List, [], _∷_}
+use Prim.Native.Nat.{ℕ, _+_, _*_, _/_, _%_, _≤_, _<_}
+use native.Mathlib.Omega.{arith}
+use lib.Dec.{eqb}
+use borrow.Author.Tests.{lt-ltb, le-ltb}
+use Rattle.refusal.specs.Limits.{tagEnd, tagsMax}
+use Rattle.refusal.specs.Outcome.{Outcome, answered, refused, answeredBy, followedBy}
+use Rattle.lists.specs.First.{metAt, isSome}
+use Rattle.refusal.specs.ChecksLaws.{inOrder-answered}
+use Rattle.refusal.specs.PlaceLaws.{PlaceBelow, Numbered, numbered-checks, numbered-followed, numbered-cond}
+use Rattle.group.specs.Ascending.{limitCheck, ascendingCheck}
+use Rattle.list.specs.Reading.{Listed, readingChecks, readingOf}
+use Rattle.hash.specs.Formula.{groupOf}
+use Rattle.image.specs.View.{View, viewOf, groupsIn, startIn, endIn, slotLineIn, slotIn}
+use Rattle.image.specs.Checking.{openingChecks, checkingChecks, checkingOf}
+use Rattle.image.specs.Lookup.{Found, number, unknown, groupChecks, lookupChecks, atSlot, lookupInGroup, lookupOf}
+use Rattle.image.specs.CheckedLookupLaws.{count-most}
+use Rattle.image.specs.LookupLaws.{lookup-any}
+use Rattle.numbering.specs.Building.{buildingChecks, buildingOf}
+use Rattle.numbering.specs.BuildingLaws.{answered-most}
+use Rattle.numbering.specs.FromText.{listFromText, buildingFromText}
+use Rattle.from_text.specs.PlaceLaws.{textLines, from-text-place}
+use Rattle.tag_index.specs.Answer64.{answer64, outcome64, foundNumber, buildAnswer, checkAnswer, lookupAnswer}
+use Rattle.tag_index.specs.PlaceLaws.{imageLines, checking-place, lookup-place}
+
+-- An outcome that fits 64 bits: an answer below 2^32, or a number that is not 0 and a place below 2^32.
+abbrev pub Fits : Outcome ℕ → Type 0
+Fits (answered n) = n < tagEnd
+Fits (refused reason place) = (0 < reason) × (place < tagEnd)
+
+-- Its answer is taken apart into it,
+pub outcome-answer : (o : Outcome ℕ) → Fits o → outcome64 (answer64 o) ≡ o
+unfolding answer64 outcome64
+outcome-answer (answered n) fits = rw (lt-ltb n tagEnd fits)
+outcome-answer (refused reason place) (some-reason, below) =
+    let high : tagEnd ≤ reason * tagEnd + place = omega arith in
+    let quotient : (reason * tagEnd + place) / tagEnd ≡ reason = omega arith in
+    let rest : (reason * tagEnd + place) % tagEnd ≡ place = omega arith in
+    rw (le-ltb (reason * tagEnd + place) tagEnd high, quotient, rest)
+
+-- so that two of them have two answers.
+pub answers-apart : (o p : Outcome ℕ) → Fits o → Fits p → answer64 o ≡ answer64 p → o ≡ p
+answers-apart o p fo fp e = sym (outcome-answer o fo) ∙ ap outcome64 e ∙ outcome-answer p fp
+
+fits-of : (bound : ℕ) (o : Outcome ℕ) → bound ≤ tagEnd → PlaceBelow bound o → Numbered o → ((n : ℕ) → o ≡ answered n → n < tagEnd) → Fits o
+fits-of bound (answered n) le place numbered below = below n refl
+fits-of bound (refused reason place) le low numbered below = (numbered, omega arith)
+
+-- Every refusal of building from a text has a number, and a length is at most 50,699.
+build-numbered : (text : List ℕ) (room : ℕ) → Numbered (buildingFromText text room)
+unfolding buildingFromText listFromText readingOf readingChecks buildingOf buildingChecks limitCheck ascendingCheck
+build-numbered text room =
+    numbered-followed (listFromText text) _
+    (numbered-checks _ (readingOf text tagsMax) refl (numbered-checks (readingChecks text tagsMax) _ refl tt))
+    (λ listed. numbered-checks (buildingChecks (listed .tags) (listed .groups) (listed .limit) room) _ refl tt)
+
+build-small : (text : List ℕ) (room n : ℕ) → buildingFromText text room ≡ answered n → n < tagEnd
+unfolding buildingFromText followedBy
+build-small text room n = go (listFromText text)
+  where
+    go : (o : Outcome Listed) → followedBy o (λ listed. buildingOf (listed .tags) (listed .groups) (listed .limit) room) ≡ answered n → n < tagEnd
+    go (answered listed) e = omega (arith, answered-most (listed .tags) (listed .groups) (listed .limit) room e)
+    go (refused reason place) e = absurd (let z : _≡_ {A = ℕ} 0 1 = cc in omega arith)
+
+-- So every outcome of building from a text fits,
+pub build-fits : (text : List ℕ) (room : ℕ) → Fits (buildingFromText text room)
+build-fits text room =
+    fits-of textLines (buildingFromText text room) (omega arith) (from-text-place text room) (build-numbered text room) (build-small text room)
+
+-- every outcome of checking,
+pub check-fits : (image : List ℕ) → Fits (checkingOf image)
+unfolding checkingOf checkingChecks openingChecks
+check-fits image =
+    fits-of imageLines (checkingOf image) (omega arith) (checking-place image)
+    (numbered-checks (checkingChecks (viewOf image)) (answered 0) refl tt)
+    (λ n e. let told = (inOrder-answered (checkingChecks (viewOf image)) (answered 0) e) .1 in let z : 0 ≡ n = cc in omega arith)
+
+-- and every outcome of lookup: a number is that of a slot, and unknown is no slot's.
+slots-numbered : (v : View) (t j : ℕ) (next : Outcome Found) → Numbered next → Numbered (atSlot v t j next)
+unfolding atSlot
+slots-numbered v t j next h = numbered-checks ((12, metAt (slotLineIn v j) (not (isSome (v .slotAt (slotLineIn v j))))) ∷ []) _ refl (numbered-cond (eqb (slotIn v j) t) (answered (number j)) next tt h)
+
+lookup-numbered : (image : List ℕ) (t : ℕ) → Numbered (lookupOf image t)
+unfolding lookupOf lookupInGroup lookupChecks groupChecks openingChecks
+lookup-numbered image t =
+    let v = viewOf image in
+    numbered-checks (lookupChecks v (groupOf (groupsIn v) t)) _ refl
+    (numbered-cond (eqb (startIn v (groupOf (groupsIn v) t)) (endIn v (groupOf (groupsIn v) t))) (answered unknown) _ tt
+    (slots-numbered v t _ _ (slots-numbered v t _ (answered unknown) tt)))
+
+-- A number that lookup answers.
+abbrev SlotFound : Outcome Found → Type 0
+SlotFound (answered (number j)) = j < tagsMax
+SlotFound (answered unknown) = Unit {0}
+SlotFound (refused reason place) = Unit {0}
+
+lookup-slot : (image : List ℕ) (t : ℕ) → SlotFound (lookupOf image t)
+lookup-slot image t = go (lookupOf image t) refl
+  where
+    go : (o : Outcome Found) → lookupOf image t ≡ o → SlotFound o
+    go (answered (number j)) e = omega (arith, (lookup-any image t j e) .slot, count-most image)
+    go (answered unknown) e = tt
+    go (refused reason place) e = tt
+
+pub lookup-fits : (image : List ℕ) (t : ℕ) → Fits (answeredBy foundNumber (lookupOf image t))
+unfolding answeredBy foundNumber
+lookup-fits image t = go (lookupOf image t) (lookup-slot image t) (lookup-place image t) (lookup-numbered image t)
+  where
+    go : (o : Outcome Found) → SlotFound o → PlaceBelow imageLines o → Numbered o → Fits (answeredBy foundNumber o)
+    go (answered (number j)) slot place numbered = omega arith
+    go (answered unknown) slot place numbered = omega arith
+    go (refused reason place) slot low numbered = (numbered, omega arith)
+
+found-apart : (o p : Outcome Found) → SlotFound o → SlotFound p → answeredBy foundNumber o ≡ answeredBy foundNumber p → o ≡ p
+unfolding answeredBy foundNumber
+found-apart (answered (number i)) (answered (number j)) so sp e = let same : i ≡ j = cc in rw same
+found-apart (answered (number i)) (answered unknown) so sp e = let same : i ≡ 4294967295 = cc in absurd (omega arith)
+found-apart (answered unknown) (answered (number j)) so sp e = let same : j ≡ 4294967295 = cc in absurd (omega arith)
+found-apart (answered unknown) (answered unknown) so sp e = refl
+found-apart (answered f) (refused reason place) so sp e = absurd (let z : _≡_ {A = ℕ} 0 1 = cc in omega arith)
+found-apart (refused reason place) (answered f) so sp e = absurd (let z : _≡_ {A = ℕ} 0 1 = cc in omega arith)
+found-apart (refused reason place) (refused reason′ place′) so sp e = cc
+
+-- Calls with one answer came to one outcome: building,
+pub build-apart : (text text′ : List ℕ) (room room′ : ℕ) → buildAnswer text room ≡ buildAnswer text′ room′
+    → buildingFromText text room ≡ buildingFromText text′ room′
+unfolding buildAnswer
+build-apart text text′ room room′ = answers-apart _ _ (build-fits text room) (build-fits text′ room′)
+
+-- checking,
+pub check-apart : (image image′ : List ℕ) → checkAnswer image ≡ checkAnswer image′ → checkingOf image ≡ checkingOf image′
+unfolding checkAnswer
+check-apart image image′ = answers-apart _ _ (check-fits image) (check-fits image′)
+
+-- and lookup.
+pub lookup-apart : (image image′ : List ℕ) (t t′ : ℕ) → lookupAnswer image t ≡ lookupAnswer image′ t′ → lookupOf image t ≡ lookupOf image′ t′
+unfolding lookupAnswer
+lookup-apart image image′ t t′ e =
+    found-apart (lookupOf image t) (lookupOf image′ t′) (lookup-slot image t) (lookup-slot image′ t′)
+    (answers-apart _ _ (lookup-fits image t) (lookup-fits image′ t′) e)

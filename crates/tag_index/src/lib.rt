@@ -1,0 +1,64 @@
+// The C boundary: the three operations as functions that C and Rust link, each with one 64-bit answer. A slice is passed as a
+// pointer and a length.
+use building::BuildAnswer;
+use checking::CheckAnswer;
+use lookup::LookupAnswer;
+use refusal::Refusal;
+ghost use mathlib.Core.Path.{_≡_};
+ghost use Prim.Native.Nat.{_<_};
+ghost use lib.ListN.{length};
+ghost use Rattle.refusal.specs.Limits.{tagEnd};
+ghost use Rattle.refusal.specs.Reason.{refusalOf};
+ghost use Rattle.numbering.specs.FromText.{bufferFromText};
+ghost use Rattle.tag_index.specs.Answer64.{answer64, buildAnswer, checkAnswer, lookupAnswer};
+ghost use Rattle.tag_index.specs.Condition2.{AnswerCondition2};
+ghost use Rattle.tag_index.specs.Condition3.{BuildCondition3};
+
+// Builds the image of a list text at the beginning of `image`, and answers its length.
+#[no_mangle]
+pub extern "C" fn tag_index_build(text: &[u8], image: &mut [u8]) -> u64
+    ensures answer { λ r. ⌜ r ≡ buildAnswer (now (text .entry)) (length (now (image .entry))) ⌝ }
+    ensures bytes { λ _. ⌜ now (image .exit) ≡ bufferFromText (now (text .entry)) (now (image .entry)) ⌝ }
+    ensures condition3 { λ r. ⌜ BuildCondition3 (now (text .entry)) (now (image .entry)) r (now (image .exit)) ⌝ }
+{
+    match from_text::build_from_text(text, image) {
+        BuildAnswer::Built(size) => size as u64,
+        BuildAnswer::Refused(refusal) => refusal_answer(refusal),
+    }
+}
+
+// Checks an image, and answers 0 for one that is accepted.
+#[no_mangle]
+pub extern "C" fn tag_index_check(image: &[u8]) -> u64
+    ensures answer { λ r. ⌜ r ≡ checkAnswer (now (image .entry)) ⌝ }
+{
+    match checking::check_image(image) {
+        CheckAnswer::Accepted => 0,
+        CheckAnswer::Refused(refusal) => refusal_answer(refusal),
+    }
+}
+
+// Looks a tag up in an image, and answers its number.
+#[no_mangle]
+pub extern "C" fn tag_index_lookup(image: &[u8], tag: u32) -> u64
+    ensures answer { λ r. ⌜ r ≡ lookupAnswer (now (image .entry)) tag ⌝ }
+    ensures checked { λ r. ⌜ AnswerCondition2 (now (image .entry)) tag r ⌝ }
+{
+    match lookup::lookup(image, tag) {
+        LookupAnswer::Number(j) => j as u64,
+        LookupAnswer::Unknown => UNKNOWN,
+        LookupAnswer::Refused(refusal) => refusal_answer(refusal),
+    }
+}
+
+// What a tag that the image does not have answers.
+const UNKNOWN: u64 = 4294967295;
+
+// A refusal's answer: its number × 2^32 plus its place.
+fn refusal_answer(refusal: Refusal) -> u64
+    requires { ⌜ refusal .place < tagEnd ⌝ }
+    ensures answer { λ r. ⌜ r ≡ answer64 (refusalOf refusal) ⌝ }
+{
+    let reason = refusal.reason;
+    refusal::reason_number(reason) as u64 * 4294967296 + refusal.place as u64
+}
