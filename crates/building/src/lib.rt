@@ -38,7 +38,7 @@ pub fn build(tags: &[u32], groups: u32, limit: u32, buffer: &mut [u8]) -> BuildA
     if refusal::TAGS_MAX < tags.len() {
         return refuse(Reason::TooManyTags, 0);
     }
-    if let First::At(i) = ascending::first_not_above(tags) {
+    if let First::At(i) = group::first_not_above(tags) {
         return refuse(Reason::NotAscending, i);
     }
     if buffer.len() < image_length(groups, tags.len()) {

@@ -35,7 +35,7 @@ pub fn place_group(tags: &[u32], limit: u32) -> PlacingAnswer
     if (refusal::GROUP_MAX as usize) < tags.len() {
         return refuse(Reason::TooManyTags, 0);
     }
-    if let First::At(i) = ascending::first_not_above(tags) {
+    if let First::At(i) = group::first_not_above(tags) {
         return refuse(Reason::NotAscending, i);
     }
     let mut places = [0u32; candidates::PLACE_CELLS];

@@ -1,4 +1,4 @@
--- `ascending::first_not_above` meets its contract: each tag that the loop has passed is above the one before. Assumes nothing.
+-- `group::first_not_above` meets its contract: each tag that the loop has passed is above the one before. Assumes nothing.
 use borrow.Author.Needs.{needs}
 use borrow.Author.Count.{below-more}
 use mathlib.Core.Path.{_≡_, sym}
@@ -7,10 +7,10 @@ use Prim.Native.Nat.{ℕ, _-_, _<_}
 use native.Mathlib.Omega.{arith}
 use lib.ListN.{length}
 use Rattle.lists.specs.FirstLaws.{first-found, first-out}
 use Rattle.group.specs.Ascending.{notAbove, ascendingCheck}
 use Rattle.group.specs.AscendingLaws.{first-above, not-above, above}
-use Rattle.ascending.proofs.first_not_above.Statement.{statement}
-use Rattle.ascending.proofs.first_not_above.Tie as tie
+use Rattle.group.proofs.first_not_above.Statement.{statement}
+use Rattle.group.proofs.first_not_above.Tie as tie
 
 abbrev Inv-loop : tie.InvT-loop
 Inv-loop tags i₀ i = (0 < i) × ((j : ℕ) → j < i → notAbove tags j ≡ false)
