@@ -6,17 +6,17 @@ use mathlib.Core.List.{List, [], _∷_}
 use mathlib.Core.Option.{Option, none, some}
 use Prim.Native.Nat.{ℕ, _+_, _-_, _*_, _<_}
 use native.Mathlib.Omega.{arith}
-use lib.Dec.{ltb}
 use lib.ListN.{length, take, drop}
 use lib.Seq.{take-at}
 use borrow.Author.Tests.{ltb-false, le-ltb, not-true}
-use Rattle.refusal.specs.Limits.{tagEnd, tagsMax, groupsMax, groupMax, limitMax, outside}
+use Rattle.refusal.specs.Limits.{tagEnd, tagsMax, groupsMax, groupMax, limitMax}
 use Rattle.refusal.specs.LimitsLaws.{outside-not, inside}
 use Rattle.refusal.specs.Outcome.{answered, refused}
 use Rattle.lists.specs.First.{first, isSome}
 use Rattle.lists.specs.FirstLaws.{first-some, first-none, first-found, first-out, none-of-isSome}
 use Rattle.refusal.specs.Checks.{Check, met, inOrder, Pass}
-use Rattle.refusal.specs.ChecksLaws.{met-false, false-of-met, Met, inOrder-pass, inOrder-answered, inOrder-refused, inOrder-append}
+use Rattle.refusal.specs.ChecksLaws.{met-false, false-of-met, Met, passed, pass-more, pass-split, met-behind}
+use Rattle.refusal.specs.ChecksLaws.{inOrder-pass, inOrder-answered, inOrder-refused, inOrder-append}
 use Rattle.text.specs.Line.{lineLength}
 use Rattle.lists.specs.Occurs.{occurs}
 use Rattle.group.specs.Group.{leastSeed, taken}
@@ -33,7 +33,7 @@ use Rattle.numbering.specs.Members.{members}
 use Rattle.numbering.specs.MembersLaws.{start-all, start-before}
 use Rattle.numbering.specs.Number.{numberOf, tagNumbered}
 use Rattle.numbering.specs.NumberLaws.{number-below, number-apart, number-onto, AllFill, all-placed, tagNumbered-is}
-use Rattle.numbering.specs.Building.{sheetOf, seedTaken, choicesTaken, imageOf, tooLarge, seedless, buildingChecks, buildingOf, written, bufferAfter}
+use Rattle.numbering.specs.Building.{sheetOf, seedTaken, choicesTaken, imageOf, tooLarge, seedless, earlierChecks, buildingChecks, buildingOf, written, bufferAfter}
 use Rattle.numbering.specs.BuildingLaws.{image-length, seed-least, taken-fill}
 use Rattle.condition3_theorem.specs.BuiltLaws.{Reads, InRange, reads-back, built-sound, built-listed, built-unlisted}
 use Rattle.condition3.specs.Condition3.{NothingFills, HasSeed, LowestWithout, EarlierChecks, Accepted, Condition3}
@@ -71,55 +71,37 @@ module _ (tags : List ℕ) (groups limit : ℕ) where
       there h has false e = e
 
   module _ (room : ℕ) where
-    -- The six checks before 7.
-    abbrev six : List Check
-    six =
-        (8, met (outside 1 groupsMax groups))
-        ∷ limitCheck limit
-        ∷ (5, met (ltb tagsMax (length tags)))
-        ∷ ascendingCheck tags
-        ∷ (9, met (ltb room (imageLength groups (length tags))))
-        ∷ (10, first (tooLarge groups tags) groups)
-        ∷ []
+    abbrev earlier : List Check
+    earlier = earlierChecks tags groups limit room
 
-    pass-of-earlier : EarlierChecks tags groups limit room → Pass six
-    unfolding limitCheck imageLength
-    pass-of-earlier h = (
-      met-false (outside-not 1 groupsMax groups (h .groups-legal .0) (h .groups-legal .1)),
-      (
-        met-false (outside-not 1 limitMax limit (h .limit-legal .0) (h .limit-legal .1)),
-        (
-          met-false (le-ltb tagsMax (length tags) (h .count-legal)),
-          (
-            check-of-ascending tags (h .ascending),
-            (
-              met-false (le-ltb room (lineLength * (1 + groups + length tags)) (h .fits)),
-              (
-                first-out (tooLarge groups tags) groups (λ g lt. le-ltb groupMax (length (members groups g tags)) (h .groups-small g lt)),
-                tt,
-              ),
-            ),
-          ),
-        ),
-      ),
-    )
+    -- The checks before 7 pass exactly where the conditions on the inputs hold.
+    pass-of-earlier : EarlierChecks tags groups limit room → Pass earlier
+    unfolding earlierChecks limitCheck imageLength
+    pass-of-earlier h =
+        pass-more (met-false (outside-not 1 groupsMax groups (h .groups-legal .0) (h .groups-legal .1)))
+        (pass-more (met-false (outside-not 1 limitMax limit (h .limit-legal .0) (h .limit-legal .1)))
+        (pass-more (met-false (le-ltb tagsMax (length tags) (h .count-legal)))
+        (pass-more (check-of-ascending tags (h .ascending))
+        (pass-more (met-false (le-ltb room (lineLength * (1 + groups + length tags)) (h .fits)))
+        (pass-more (first-out (tooLarge groups tags) groups (λ g lt. le-ltb groupMax (length (members groups g tags)) (h .groups-small g lt)))
+        tt)))))
 
-    earlier-of-pass : Pass six → EarlierChecks tags groups limit room
-    unfolding limitCheck imageLength
-    earlier-of-pass (eight, (four, (five, (order, (nine, (ten, end)))))) = record {
-      groups-legal = inside 1 groupsMax groups (false-of-met (outside 1 groupsMax groups) eight);
-      limit-legal = inside 1 limitMax limit (false-of-met (outside 1 limitMax limit) four);
-      count-legal = ltb-false tagsMax (length tags) (false-of-met (ltb tagsMax (length tags)) five);
-      ascending = ascending-of-check tags order;
-      fits = ltb-false room (lineLength * (1 + groups + length tags)) (false-of-met (ltb room (lineLength * (1 + groups + length tags))) nine);
-      groups-small = λ g lt. ltb-false groupMax (length (members groups g tags)) (first-none (tooLarge groups tags) groups ten g lt);
+    earlier-of-pass : Pass earlier → EarlierChecks tags groups limit room
+    unfolding earlierChecks limitCheck ascendingCheck imageLength
+    earlier-of-pass h = record {
+      groups-legal = inside 1 groupsMax groups (false-of-met _ (passed earlier h 8));
+      limit-legal = inside 1 limitMax limit (false-of-met _ (passed earlier h 4));
+      count-legal = ltb-false tagsMax (length tags) (false-of-met _ (passed earlier h 5));
+      ascending = ascending-of-check tags (passed earlier h 6);
+      fits = ltb-false room (lineLength * (1 + groups + length tags)) (false-of-met _ (passed earlier h 9));
+      groups-small = λ g lt. ltb-false groupMax (length (members groups g tags)) (first-none (tooLarge groups tags) groups (passed earlier h 10) g lt);
     }
 
     -- Where they pass, 7 decides.
     seven-decides : EarlierChecks tags groups limit room
         → buildingOf tags groups limit room ≡ inOrder ((7, first (seedless groups tags limit) groups) ∷ []) (answered (imageLength groups (length tags)))
     unfolding buildingOf buildingChecks
-    seven-decides h = inOrder-append six ((7, first (seedless groups tags limit) groups) ∷ []) _ ∙ inOrder-pass six _ (pass-of-earlier h)
+    seven-decides h = inOrder-append earlier _ _ ∙ inOrder-pass earlier _ (pass-of-earlier h)
 
     refused-of-lowest : EarlierChecks tags groups limit room → (g : ℕ) → LowestWithout groups tags limit g → buildingOf tags groups limit room ≡ refused 7 g
     unfolding inOrder
@@ -135,20 +117,25 @@ module _ (tags : List ℕ) (groups limit : ℕ) where
         go none e = refl
         go (some g) e = absurd (never g (lowest-of-first g e))
 
-    -- A refusal 7 comes from the last check.
+    -- A refusal 7 comes from the last check, since no earlier one has its number.
     first-of-seven : (g : ℕ) → buildingOf tags groups limit room ≡ refused 7 g → first (seedless groups tags limit) groups ≡ some g
-    unfolding buildingOf buildingChecks limitCheck ascendingCheck
-    first-of-seven g e = go (inOrder-refused (buildingChecks tags groups limit room) (imageLength groups (length tags)) e)
+    unfolding buildingOf buildingChecks earlierChecks limitCheck ascendingCheck
+    first-of-seven g e =
+        let met = inOrder-refused (buildingChecks tags groups limit room) (imageLength groups (length tags)) e in
+        go (met-behind earlier ((7, first (seedless groups tags limit) groups) ∷ []) 7 g refl met .1)
       where
-        go : Met (buildingChecks tags groups limit room) 7 g → first (seedless groups tags limit) groups ≡ some g
-        go (inl m) = absurd (omega (arith, m .0))
-        go (inr (_, inl m)) = absurd (omega (arith, m .0))
-        go (inr (_, inr (_, inl m))) = absurd (omega (arith, m .0))
-        go (inr (_, inr (_, inr (_, inl m)))) = absurd (omega (arith, m .0))
-        go (inr (_, inr (_, inr (_, inr (_, inl m))))) = absurd (omega (arith, m .0))
-        go (inr (_, inr (_, inr (_, inr (_, inr (_, inl m)))))) = absurd (omega (arith, m .0))
-        go (inr (_, inr (_, inr (_, inr (_, inr (_, inr (_, inl m))))))) = m .1
-        go (inr (_, inr (_, inr (_, inr (_, inr (_, inr (_, inr (_, m)))))))) = absurd m
+        go : Met ((7, first (seedless groups tags limit) groups) ∷ []) 7 g → first (seedless groups tags limit) groups ≡ some g
+        go (inl m) = m .1
+        go (inr m) = absurd (m .1)
+
+    -- An answer says that the checks before 7 pass, that every group has a seed, and the length.
+    answered-says : {size : ℕ} → buildingOf tags groups limit room ≡ answered size
+        → EarlierChecks tags groups limit room × (first (seedless groups tags limit) groups ≡ none) × (imageLength groups (length tags) ≡ size)
+    unfolding buildingOf buildingChecks
+    answered-says e =
+        let (passes, answer) = inOrder-answered (buildingChecks tags groups limit room) (answered (imageLength groups (length tags))) e in
+        let (front, back) = pass-split earlier _ passes in
+        (earlier-of-pass front, back .0, cc)
 
     -- An accepted building, from the earlier checks and a seed for every group.
     module _ (words : (t : ℕ) → occurs t tags ≡ true → t < tagEnd) (h : EarlierChecks tags groups limit room) (every : first (seedless groups tags limit) groups ≡ none) where
@@ -205,16 +192,12 @@ module _ (tags : List ℕ) (groups limit : ℕ) where
 -- What building writes is accepted by checking.
 pub built-checked : (tags : List ℕ) (groups limit room : ℕ) {size : ℕ} → ((t : ℕ) → occurs t tags ≡ true → t < tagEnd)
     → buildingOf tags groups limit room ≡ answered size → checkingOf (imageOf groups tags limit) ≡ answered 0
-unfolding buildingOf buildingChecks checkingOf
-built-checked tags groups limit room words e = go (inOrder-answered (buildingChecks tags groups limit room) (answered (imageLength groups (length tags))) e)
-  where
-    go : {size : ℕ} → Pass (buildingChecks tags groups limit room) × (answered (imageLength groups (length tags)) ≡ answered size)
-        → inOrder {A = ℕ} (checkingChecks (viewOf (imageOf groups tags limit))) (answered 0) ≡ answered 0
-    go ((eight, (four, (five, (order, (nine, (ten, (seven, end))))))), answer) =
-        let h = earlier-of-pass tags groups limit room (eight, (four, (five, (order, (nine, (ten, tt)))))) in
-        let v = viewOf (imageOf groups tags limit) in
-        let sound = built-sound (reads tags groups limit room words h seven) (all-fill tags groups limit room words h seven) (h .groups-small) in
-        inOrder-pass (checkingChecks v) (answered 0) (pass-of-sound v sound)
+unfolding checkingOf
+built-checked tags groups limit room words e =
+    let (h, every, size) = answered-says tags groups limit room e in
+    let v = viewOf (imageOf groups tags limit) in
+    let sound = built-sound (reads tags groups limit room words h every) (all-fill tags groups limit room words h every) (h .groups-small) in
+    inOrder-pass (checkingChecks v) (answered 0) (pass-of-sound v sound)
 
 -- The buffer's first bytes after an accepted building are the image.
 pub image-written : (tags : List ℕ) (groups limit : ℕ) (before : List ℕ) (size : ℕ) → buildingOf tags groups limit (length before) ≡ answered size
@@ -227,9 +210,9 @@ image-written tags groups limit before size e same =
 -- The theorem: "Whatever list, group count, seed limit and buffer a site hands to building, all of this holds."
 pub condition3 : (tags : List ℕ) (groups limit : ℕ) (before : List ℕ) → ((t : ℕ) → occurs t tags ≡ true → t < tagEnd)
     → Condition3 tags groups limit (length before) (buildingOf tags groups limit (length before)) (bufferAfter tags groups limit before)
-unfolding buildingOf buildingChecks imageLength
+unfolding imageLength
 condition3 tags groups limit before words = record {
-  accepted = λ size e. accept size e (inOrder-answered (buildingChecks tags groups limit room) (answered (imageLength groups (length tags))) e);
+  accepted = accept;
   no-seed = λ g e. (lowest-of-first tags groups limit g (first-of-seven tags groups limit room g e)) .without;
   refused-7 = λ h g. (
     λ e. lowest-of-first tags groups limit g (first-of-seven tags groups limit room g e),
@@ -241,30 +224,26 @@ condition3 tags groups limit before words = record {
     room : ℕ
     room = length before
 
-    accept : (size : ℕ) → buildingOf tags groups limit room ≡ answered size
-        → Pass (buildingChecks tags groups limit room) × (answered (imageLength groups (length tags)) ≡ answered size)
-        → Accepted tags groups limit (bufferAfter tags groups limit before) size
-    accept size e ((eight, (four, (five, (order, (nine, (ten, (seven, end))))))), answer) =
-        let same : imageLength groups (length tags) ≡ size = cc in
-        let h = earlier-of-pass tags groups limit room (eight, (four, (five, (order, (nine, (ten, tt)))))) in
-        accepted-as tags groups limit room words h seven size (bufferAfter tags groups limit before) (sym same) (image-written tags groups limit before size e same)
+    accept : (size : ℕ) → buildingOf tags groups limit room ≡ answered size → Accepted tags groups limit (bufferAfter tags groups limit before) size
+    accept size e =
+        let (h, every, same) = answered-says tags groups limit room e in
+        accepted-as tags groups limit room words h every size (bufferAfter tags groups limit before) (sym same)
+        (image-written tags groups limit before size e same)
 
 -- Lookup in the image that building writes, under the seeds and sequences that it takes.
 pub looked-up : (tags : List ℕ) (groups limit room : ℕ) {size : ℕ} → ((t : ℕ) → occurs t tags ≡ true → t < tagEnd)
     → buildingOf tags groups limit room ≡ answered size → (t : ℕ) → lookupOf (imageOf groups tags limit) t
     ≡ answered (cond (occurs t tags) (number (numberOf groups tags (seedTaken groups tags limit) (choicesTaken groups tags limit) t)) unknown)
-unfolding buildingOf buildingChecks lookupOf
-looked-up tags groups limit room words e t = go (inOrder-answered (buildingChecks tags groups limit room) (answered (imageLength groups (length tags))) e)
+unfolding lookupOf
+looked-up tags groups limit room words e t = by (occurs t tags) refl
   where
-    go : {size : ℕ} → Pass (buildingChecks tags groups limit room) × (answered (imageLength groups (length tags)) ≡ answered size)
-        → lookupOf (imageOf groups tags limit) t
-        ≡ answered (cond (occurs t tags) (number (numberOf groups tags (seedTaken groups tags limit) (choicesTaken groups tags limit) t)) unknown)
-    go ((eight, (four, (five, (order, (nine, (ten, (seven, end))))))), answer) = by (occurs t tags) refl
-      where
-        h : EarlierChecks tags groups limit room
-        h = earlier-of-pass tags groups limit room (eight, (four, (five, (order, (nine, (ten, tt))))))
+    h : EarlierChecks tags groups limit room
+    h = (answered-says tags groups limit room e) .0
 
-        by : (b : Bool) → occurs t tags ≡ b → lookupOf (imageOf groups tags limit) t
-            ≡ answered (cond (occurs t tags) (number (numberOf groups tags (seedTaken groups tags limit) (choicesTaken groups tags limit) t)) unknown)
-        by true m = rw m (built-listed (reads tags groups limit room words h seven) (all-fill tags groups limit room words h seven) (h .groups-small) t m)
-        by false m = rw m (built-unlisted (reads tags groups limit room words h seven) (all-fill tags groups limit room words h seven) (h .groups-small) t m)
+    every : first (seedless groups tags limit) groups ≡ none
+    every = (answered-says tags groups limit room e) .1
+
+    by : (b : Bool) → occurs t tags ≡ b → lookupOf (imageOf groups tags limit) t
+        ≡ answered (cond (occurs t tags) (number (numberOf groups tags (seedTaken groups tags limit) (choicesTaken groups tags limit) t)) unknown)
+    by true m = rw m (built-listed (reads tags groups limit room words h every) (all-fill tags groups limit room words h every) (h .groups-small) t m)
+    by false m = rw m (built-unlisted (reads tags groups limit room words h every) (all-fill tags groups limit room words h every) (h .groups-small) t m)

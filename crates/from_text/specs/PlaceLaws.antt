@@ -12,7 +12,7 @@ use Rattle.refusal.specs.ChecksLaws.{false-of-met}
 use Rattle.refusal.specs.PlaceLaws.{PlaceBelow, below-checks, below-followed, met-below, first-below}
 use Rattle.group.specs.Ascending.{limitCheck, ascendingCheck}
 use Rattle.list.specs.Reading.{lineCount, readingChecks, readingOf}
-use Rattle.numbering.specs.Building.{buildingChecks, buildingOf}
+use Rattle.numbering.specs.Building.{earlierChecks, buildingChecks, buildingOf}
 use Rattle.numbering.specs.FromText.{listFromText, buildingFromText}
 
 -- A text of at most 65,527 bytes has at most 5,957 lines.
@@ -37,7 +37,7 @@ reading-place text short =
 
 -- and one of building an index of a list that is not too long, or a group.
 building-place : (tags : List ℕ) (groups limit room : ℕ) → PlaceBelow textLines (buildingOf tags groups limit room)
-unfolding buildingOf buildingChecks limitCheck ascendingCheck
+unfolding buildingOf buildingChecks earlierChecks limitCheck ascendingCheck
 building-place tags groups limit room =
     below-checks textLines (buildingChecks tags groups limit room) _ (
       met-below textLines _ (omega arith),

@@ -44,17 +44,21 @@ abbrev pub seedless : ℕ → List ℕ → ℕ → ℕ → Bool
 seedless groups tags limit g = not (isSome (leastSeed (members groups g tags) limit))
 
 -- "8: B not 1 to 512. 4 as above. 5: more than 4,096 tags. 6 as above. 9: buffer shorter than the image. 10: a group has more than
--- 24 tags, at the lowest such group. 7: at the lowest group without a seed." The buffer has `room` bytes.
-unfoldable pub buildingChecks : List ℕ → ℕ → ℕ → ℕ → List Check
-buildingChecks tags groups limit room =
+-- 24 tags, at the lowest such group." The buffer has `room` bytes. "The earlier checks are those that building makes before 7."
+unfoldable pub earlierChecks : List ℕ → ℕ → ℕ → ℕ → List Check
+earlierChecks tags groups limit room =
     (8, met (outside 1 groupsMax groups))
     ∷ limitCheck limit
     ∷ (5, met (ltb tagsMax (length tags)))
     ∷ ascendingCheck tags
     ∷ (9, met (ltb room (imageLength groups (length tags))))
     ∷ (10, first (tooLarge groups tags) groups)
-    ∷ (7, first (seedless groups tags limit) groups)
     ∷ []
+
+-- "7: at the lowest group without a seed."
+unfoldable pub buildingChecks : List ℕ → ℕ → ℕ → ℕ → List Check
+buildingChecks tags groups limit room =
+    earlierChecks tags groups limit room ++ (7, first (seedless groups tags limit) groups) ∷ []
 
 -- "Otherwise the image stands at the buffer's beginning and the answer is its length."
 unfoldable pub buildingOf : List ℕ → ℕ → ℕ → ℕ → Outcome ℕ

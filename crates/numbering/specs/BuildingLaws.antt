@@ -23,7 +23,7 @@ use Rattle.image.specs.SheetLaws.{bytes-length, image-longest}
 use Rattle.numbering.specs.Members.{members}
 use Rattle.numbering.specs.NumberLaws.{AllFill}
 use Rattle.numbering.specs.Admitted.{Admitted}
-use Rattle.numbering.specs.Building.{sheetOf, seedTaken, choicesTaken, imageOf, tooLarge, seedless, buildingChecks, buildingOf, written, bufferAfter}
+use Rattle.numbering.specs.Building.{sheetOf, seedTaken, choicesTaken, imageOf, tooLarge, seedless, earlierChecks, buildingChecks, buildingOf, written, bufferAfter}
 
 -- The image that building writes has the length that building answers.
 pub image-length : (groups : ℕ) (tags : List ℕ) (limit : ℕ) → length (imageOf groups tags limit) ≡ imageLength groups (length tags)
@@ -32,44 +32,44 @@ image-length groups tags limit = bytes-length (sheetOf groups tags (seedTaken gr
 
 module _ (tags : List ℕ) (groups limit room : ℕ) where
   pub building-groups : outside 1 groupsMax groups ≡ true → buildingOf tags groups limit room ≡ refused 8 0
-  unfolding buildingOf buildingChecks inOrder met metAt
+  unfolding buildingOf buildingChecks earlierChecks inOrder met metAt
   building-groups e = rw e
 
   module _ (some-groups : outside 1 groupsMax groups ≡ false) where
     pub building-limit : outside 1 limitMax limit ≡ true → buildingOf tags groups limit room ≡ refused 4 0
-    unfolding buildingOf buildingChecks limitCheck inOrder met metAt
+    unfolding buildingOf buildingChecks earlierChecks limitCheck inOrder met metAt
     building-limit e = rw (some-groups, e)
 
     module _ (legal : outside 1 limitMax limit ≡ false) where
       pub building-many : tagsMax < length tags → buildingOf tags groups limit room ≡ refused 5 0
-      unfolding buildingOf buildingChecks limitCheck inOrder met metAt
+      unfolding buildingOf buildingChecks earlierChecks limitCheck inOrder met metAt
       building-many many = rw (some-groups, legal, lt-ltb tagsMax (length tags) many)
 
       module _ (few : length tags ≤ tagsMax) where
         pub building-descends : {i : ℕ} → ascendingCheck tags .1 ≡ some i → buildingOf tags groups limit room ≡ refused 6 i
-        unfolding buildingOf buildingChecks limitCheck ascendingCheck inOrder met metAt
+        unfolding buildingOf buildingChecks earlierChecks limitCheck ascendingCheck inOrder met metAt
         building-descends e = rw (some-groups, legal, le-ltb tagsMax (length tags) few, e)
 
         module _ (up : ascendingCheck tags .1 ≡ none) where
           pub building-short : room < imageLength groups (length tags) → buildingOf tags groups limit room ≡ refused 9 0
-          unfolding buildingOf buildingChecks limitCheck ascendingCheck inOrder met metAt
+          unfolding buildingOf buildingChecks earlierChecks limitCheck ascendingCheck inOrder met metAt
           building-short short =
               rw (some-groups, legal, le-ltb tagsMax (length tags) few, up, lt-ltb room (imageLength groups (length tags)) short)
 
 module _ {tags : List ℕ} {groups limit room : ℕ} (a : Admitted tags groups limit room) where
   pub building-large : {g : ℕ} → first (tooLarge groups tags) groups ≡ some g → buildingOf tags groups limit room ≡ refused 10 g
-  unfolding buildingOf buildingChecks limitCheck ascendingCheck inOrder met metAt
+  unfolding buildingOf buildingChecks earlierChecks limitCheck ascendingCheck inOrder met metAt
   building-large e =
       rw (a .groups-legal, a .limit-legal, le-ltb tagsMax (length tags) (a .count-legal), a .ascending, le-ltb room (imageLength groups (length tags)) (a .fits), e)
 
   module _ (small : first (tooLarge groups tags) groups ≡ none) where
     pub building-seedless : {g : ℕ} → first (seedless groups tags limit) groups ≡ some g → buildingOf tags groups limit room ≡ refused 7 g
-    unfolding buildingOf buildingChecks limitCheck ascendingCheck inOrder met metAt
+    unfolding buildingOf buildingChecks earlierChecks limitCheck ascendingCheck inOrder met metAt
     building-seedless e =
         rw (a .groups-legal, a .limit-legal, le-ltb tagsMax (length tags) (a .count-legal), a .ascending, le-ltb room (imageLength groups (length tags)) (a .fits), small, e)
 
     pub building-answered : first (seedless groups tags limit) groups ≡ none → buildingOf tags groups limit room ≡ answered (imageLength groups (length tags))
-    unfolding buildingOf buildingChecks limitCheck ascendingCheck inOrder met metAt
+    unfolding buildingOf buildingChecks earlierChecks limitCheck ascendingCheck inOrder met metAt
     building-answered e =
         rw (a .groups-legal, a .limit-legal, le-ltb tagsMax (length tags) (a .count-legal), a .ascending, le-ltb room (imageLength groups (length tags)) (a .fits), small, e)
 
@@ -114,7 +114,7 @@ answered-size tags groups limit room e =
 -- It is that of an image of at most 4,096 tags in at most 512 groups.
 pub answered-most : (tags : List ℕ) (groups limit room : ℕ) {size : ℕ} → buildingOf tags groups limit room ≡ answered size
     → size ≤ 50699
-unfolding buildingOf buildingChecks limitCheck ascendingCheck
+unfolding buildingOf buildingChecks earlierChecks limitCheck ascendingCheck
 answered-most tags groups limit room e =
     let checks = buildingChecks tags groups limit room in
     let (passes, told) = inOrder-answered checks (answered (imageLength groups (length tags))) e in

@@ -16,7 +16,7 @@ use Rattle.text.specs.LineLaws.{pairLine-length}
 use Rattle.list.specs.Reading.{Listed}
 use Rattle.image.specs.Sheet.{imageLength}
 use Rattle.image.specs.SheetLaws.{image-longest}
-use Rattle.numbering.specs.Building.{buildingChecks, buildingOf}
+use Rattle.numbering.specs.Building.{earlierChecks, buildingChecks, buildingOf}
 use Rattle.numbering.specs.BuildingLaws.{image-length, building-groups, building-limit, building-many, buffer-kept, buffer-written, answered-size}
 use Rattle.numbering.specs.FromText.{listFromText, buildingFromText, bufferOfList, bufferFromText}
 use Rattle.printing.specs.Printing.{imageOfList, outputOf, printed, longestImage, printedCount, printedInto}
@@ -29,7 +29,7 @@ longest-is = refl
 -- In every buffer that is long enough for the longest image building comes to the same: 9 never comes.
 pub building-roomy : (tags : List ℕ) (groups limit room : ℕ) → longestImage ≤ room
     → buildingOf tags groups limit room ≡ buildingOf tags groups limit longestImage
-unfolding buildingOf buildingChecks
+unfolding buildingOf buildingChecks earlierChecks
 building-roomy tags groups limit room enough =
     go (outside 1 groupsMax groups) (outside 1 limitMax limit) (ltb tagsMax (length tags)) refl refl refl
   where

@@ -2,11 +2,13 @@
 use Prim.Native.Nat.{ℕ}
 use mathlib.Core.Path.{_≡_, refl, _∙_, ap}
 use mathlib.Core.Logic.{_⊎_, inl, inr}
-use mathlib.Core.Bool.{Bool, true, false, cond}
+use mathlib.Core.Bool.{Bool, true, false, cond, _||_}
 use mathlib.Core.List.{List, [], _∷_, _++_}
 use mathlib.Core.Option.{Option, none, some}
 use native.Mathlib.Omega.{arith}
 use lib.Dec.{eqb}
+use borrow.Author.Tests.{eqb-false}
+use Rattle.lists.specs.BoolLaws.{neither-of-or}
 use Rattle.refusal.specs.Outcome.{Outcome, answered, refused}
 use Rattle.lists.specs.First.{metAt}
 use Rattle.refusal.specs.Checks.{Check, met, inOrder, Pass}
@@ -74,9 +76,17 @@ passed (check ∷ checks) h number = go (eqb (check .0) number) (passed checks (
     go true later = h .0
     go false later = later
 
+-- One check more that is not met, in front of those that pass.
+pub pass-more : {A B : Type 0} → A → B → A × B
+pass-more h rest = (h, rest)
+
 pub pass-append : (checks more : List Check) → Pass checks → Pass more → Pass (checks ++ more)
 pass-append [] more h j = j
 pass-append (check ∷ checks) more h j = (h .0, pass-append checks more (h .1) j)
+
+pub pass-split : (checks more : List Check) → Pass (checks ++ more) → Pass checks × Pass more
+pass-split [] more h = (tt, h)
+pass-split (check ∷ checks) more h = let (front, back) = pass-split checks more (h .1) in ((h .0, front), back)
 
 -- Two lists of checks agree, each check where those before it pass; and where all pass this holds behind them.
 abbrev pub Agree : List Check → List Check → Type 0 → Type 0
@@ -88,6 +98,22 @@ Agree (check ∷ checks) (other ∷ others) behind = (check ≡ other) × (check
 pub agree-same : (checks : List Check) (behind : Type 0) → (Pass checks → behind) → Agree checks checks behind
 agree-same [] behind h = h tt
 agree-same (check ∷ checks) behind h = (refl, λ passes. agree-same checks behind (λ rest. h (passes, rest)))
+
+-- Is it the number of one of the checks?
+abbrev pub numbers : List Check → ℕ → Bool
+numbers [] number = false
+numbers (check ∷ checks) number = eqb (check .0) number || numbers checks number
+
+-- A number that is in none of the front's checks is met behind them, and they pass.
+pub met-behind : (front back : List Check) (number place : ℕ) → numbers front number ≡ false → Met (front ++ back) number place
+    → Pass front × Met back number place
+met-behind [] back number place absent h = (tt, h)
+met-behind (check ∷ front) back number place absent (inl h) =
+    absurd (eqb-false (check .0) number ((neither-of-or (eqb (check .0) number) (numbers front number) absent) .0) (h .0))
+met-behind (check ∷ front) back number place absent (inr h) =
+    let rest = (neither-of-or (eqb (check .0) number) (numbers front number) absent) .1 in
+    let (passes, behind) = met-behind front back number place rest (h .1) in
+    ((h .0, passes), behind)
 
 module _ {A : Type 0} where
   -- Then they come to the same.

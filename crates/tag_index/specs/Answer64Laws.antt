@@ -20,7 +20,7 @@ use Rattle.image.specs.Checking.{openingChecks, checkingChecks, checkingOf}
 use Rattle.image.specs.Lookup.{Found, number, unknown, groupChecks, lookupChecks, atSlot, lookupInGroup, lookupOf}
 use Rattle.image.specs.CheckedLookupLaws.{count-most}
 use Rattle.image.specs.LookupLaws.{lookup-any}
-use Rattle.numbering.specs.Building.{buildingChecks, buildingOf}
+use Rattle.numbering.specs.Building.{earlierChecks, buildingChecks, buildingOf}
 use Rattle.numbering.specs.BuildingLaws.{answered-most}
 use Rattle.numbering.specs.FromText.{listFromText, buildingFromText}
 use Rattle.from_text.specs.PlaceLaws.{textLines, from-text-place}
@@ -52,7 +52,7 @@ fits-of bound (refused reason place) le low numbered below = (numbered, omega ar
 
 -- Every refusal of building from a text has a number, and a length is at most 50,699.
 build-numbered : (text : List ℕ) (room : ℕ) → Numbered (buildingFromText text room)
-unfolding buildingFromText listFromText readingOf readingChecks buildingOf buildingChecks limitCheck ascendingCheck
+unfolding buildingFromText listFromText readingOf readingChecks buildingOf buildingChecks earlierChecks limitCheck ascendingCheck
 build-numbered text room =
     numbered-followed (listFromText text) _
     (numbered-checks _ (readingOf text tagsMax) refl (numbered-checks (readingChecks text tagsMax) _ refl tt))

@@ -31,7 +31,7 @@ use Rattle.lists.specs.UpTo.{upTo}
 use Rattle.image.specs.Sheet.{linesOf, bytesOf, imageLength}
 use Rattle.numbering.specs.Members.{select, members, startOf}
 use Rattle.numbering.specs.Number.{choiceOf, placeIn, numberOf, tagNumbered}
-use Rattle.numbering.specs.Building.{sheetOf, seedTaken, choicesTaken, imageOf, buildingChecks, buildingOf, written, bufferAfter}
+use Rattle.numbering.specs.Building.{sheetOf, seedTaken, choicesTaken, imageOf, earlierChecks, buildingChecks, buildingOf, written, bufferAfter}
 use Rattle.worked.specs.Row.{Claim, Holds, AllHold, RowHolds, Every}
 use Rattle.worked.specs.Table.{value1, value2, value3, value4, value5, value6, value7, value8, value9, table, unreachable}
 
@@ -42,7 +42,7 @@ holds-only limit claims h l from upto = let e : limit ≡ l = omega arith in sub
 
 -- `unfolding computed` opens every definition that a row of small numbers computes through; leastSeed stays shut where L is not given.
 computed : ℕ
-unfolding AllHold Holds metAt isSome met inOrder orElse product highPart hashed groupOf multiplier placeOf oneTagChecks placeOfOneTag occurs distinct placeBy chosen beginning leastFrom least feasible choiceNumber wordOf bothPlaces candidates taken limitCheck notAbove ascendingCheck placingChecks placementOf placingOf imageLength select members startOf choiceOf placeIn numberOf tagNumbered leading figure pairLine flatten upTo linesOf bytesOf sheetOf seedTaken choicesTaken imageOf buildingChecks buildingOf written bufferAfter
+unfolding AllHold Holds metAt isSome met inOrder orElse product highPart hashed groupOf multiplier placeOf oneTagChecks placeOfOneTag occurs distinct placeBy chosen beginning leastFrom least feasible choiceNumber wordOf bothPlaces candidates taken limitCheck notAbove ascendingCheck placingChecks placementOf placingOf imageLength select members startOf choiceOf placeIn numberOf tagNumbered leading figure pairLine flatten upTo linesOf bytesOf sheetOf seedTaken choicesTaken imageOf buildingChecks earlierChecks buildingOf written bufferAfter
 computed = 0
 
 -- B = 1 is a legal group count.

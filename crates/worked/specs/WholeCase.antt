@@ -26,14 +26,14 @@ use Rattle.image.specs.Checking.{openingChecks, malformedIn, groupOfSlot, mispl
 use Rattle.image.specs.Lookup.{number, groupChecks, lookupChecks, atSlot, lookupInGroup, lookupOf}
 use Rattle.numbering.specs.Members.{select, members, startOf}
 use Rattle.numbering.specs.Number.{choiceOf, placeIn, numberOf, tagNumbered}
-use Rattle.numbering.specs.Building.{sheetOf, seedTaken, choicesTaken, imageOf, buildingChecks, buildingOf}
+use Rattle.numbering.specs.Building.{sheetOf, seedTaken, choicesTaken, imageOf, earlierChecks, buildingChecks, buildingOf}
 use Rattle.numbering.specs.FromText.{listFromText, buildingFromText}
 use Rattle.printing.specs.Printing.{imageOfList, outputOf, printed}
 use Rattle.tag_index.specs.Answer64.{answer64, foundNumber, buildAnswer, checkAnswer, lookupAnswer}
 
 -- `unfolding computed` opens every definition that these compute through.
 computed : ℕ
-unfolding flatten orElse outside answeredBy followedBy first metAt isSome met inOrder product highPart hashed groupOf multiplier placeOf leading figure valueFrom same field lineAt pairLine tagLine ended bothFields pairOf tagOf within imageHeader groupLine slotLine listHeader listLine occurs distinct placeBy beginning leastFrom least feasible bothPlaces candidates leastSeed taken limitCheck notAbove ascendingCheck malformed lineCount tagCount tagsFrom listedIn readingChecks readingOf upTo linesOf bytesOf imageLength viewOf countIn groupsIn startIn seedIn slotLineIn slotIn endIn faulty candidateIn openingChecks malformedIn groupOfSlot misplaced repeated checkingChecks checkingOf groupChecks lookupChecks atSlot lookupInGroup lookupOf select members startOf choiceOf placeIn numberOf tagNumbered sheetOf seedTaken choicesTaken imageOf buildingChecks buildingOf listFromText buildingFromText imageOfList outputOf printed answer64 foundNumber buildAnswer checkAnswer lookupAnswer
+unfolding flatten orElse outside answeredBy followedBy first metAt isSome met inOrder product highPart hashed groupOf multiplier placeOf leading figure valueFrom same field lineAt pairLine tagLine ended bothFields pairOf tagOf within imageHeader groupLine slotLine listHeader listLine occurs distinct placeBy beginning leastFrom least feasible bothPlaces candidates leastSeed taken limitCheck notAbove ascendingCheck malformed lineCount tagCount tagsFrom listedIn readingChecks readingOf upTo linesOf bytesOf imageLength viewOf countIn groupsIn startIn seedIn slotLineIn slotIn endIn faulty candidateIn openingChecks malformedIn groupOfSlot misplaced repeated checkingChecks checkingOf groupChecks lookupChecks atSlot lookupInGroup lookupOf select members startOf choiceOf placeIn numberOf tagNumbered sheetOf seedTaken choicesTaken imageOf buildingChecks earlierChecks buildingOf listFromText buildingFromText imageOfList outputOf printed answer64 foundNumber buildAnswer checkAnswer lookupAnswer
 computed = 0
 
 -- "    2    9" and the tags 1, 2, 3, each in a line of its own.

@@ -21,13 +21,13 @@ use Rattle.image.specs.Sheet.{imageLength}
 use Rattle.image.specs.Lookup.{number, unknown}
 use Rattle.numbering.specs.Members.{select, members, startOf}
 use Rattle.numbering.specs.Number.{choiceOf, placeIn, numberOf}
-use Rattle.numbering.specs.Building.{seedTaken, choicesTaken, buildingChecks, buildingOf}
+use Rattle.numbering.specs.Building.{seedTaken, choicesTaken, earlierChecks, buildingChecks, buildingOf}
 use Rattle.claim.specs.Claim.{foundIn, claimOf}
 use Rattle.claim.proofs.worked.number_of_one.Statement.{statement}
 use Rattle.claim.proofs.worked.number_of_one.Tie as tie
 
 computed : claimOf (1 ∷ 2 ∷ []) 1 1 44 1 ≡ answered (number 1)
-unfolding orElse outside followedBy first metAt isSome met inOrder product highPart hashed groupOf multiplier placeOf occurs placeBy beginning leastFrom least feasible choiceNumber bothPlaces candidates leastSeed taken limitCheck notAbove ascendingCheck imageLength select members startOf choiceOf placeIn numberOf seedTaken choicesTaken buildingChecks buildingOf foundIn claimOf
+unfolding orElse outside followedBy first metAt isSome met inOrder product highPart hashed groupOf multiplier placeOf occurs placeBy beginning leastFrom least feasible choiceNumber bothPlaces candidates leastSeed taken limitCheck notAbove ascendingCheck imageLength select members startOf choiceOf placeIn numberOf seedTaken choicesTaken buildingChecks earlierChecks buildingOf foundIn claimOf
 computed = refl
 
 same : {j : ℕ} → answered (number j) ≡ answered (number 1) → j ≡ 1
