@@ -3,6 +3,7 @@ use Prim.Native.Nat.{ℕ, suc, _+_, _-_, _^_, _≤_, _<_}
 use mathlib.Core.Path.{_≡_, refl, sym, _∙_, ap}
 use mathlib.Core.Bool.{Bool, true, false, cond}
 use mathlib.Core.List.{List}
+use mathlib.Core.Option.{some, Option·map}
 use native.Mathlib.Numerals.{add-one}
 use native.Mathlib.Omega.{arith}
 use lib.Dec.{ltb}
@@ -10,23 +11,44 @@ use lib.ListN.{getD, set}
 use borrow.Author.Tests.{ltb-true, ltb-false}
 use Rattle.refusal.specs.Limits.{groupMax}
 use Rattle.bits.specs.Bit.{setBit}
-use Rattle.filling.specs.Word.{choiceNumber}
+use Rattle.filling.specs.Word.{choiceNumber, wordOf}
+use Rattle.filling.specs.Least.{least}
 use Rattle.filling.specs.Weight.{keyWeight, choiceWeight, total}
 use Rattle.filling.specs.Insertion.{Lightest, NoneWith, Occupies, Insertion, Walk}
 use Rattle.filling.specs.InsertionLaws.{insertion-start, insertion-turn, insertion-done, insertion-stuck, insertion-returned, walk-start, walk-free, walk-occupied, walk-returned, walk-turn, lighter-lightest, only-lightest, neither-separate, lightest-same}
 use Rattle.filling.specs.LightestLaws.{second-place-lightest}
 use Rattle.insertion.specs.Entry.{entryOf, Candidates}
-use Rattle.insertion.specs.EntryLaws.{entry-other, entry-part}
+use Rattle.insertion.specs.EntryLaws.{entry-other, entry-part, candidates-fewer}
+use Rattle.insertion.specs.Keys.{keysOf}
+use Rattle.insertion.specs.Answer.{insertedMeaning}
+use Rattle.insertion.specs.LeastWordLaws.{lightest-word, word-lightest, nothing-word}
 use Rattle.insertion.specs.WordBits.{choiceIn, toggleBit}
 use Rattle.insertion.specs.WordBitsLaws.{choiceNumber-same, toggle-below, toggle-toggled, choice-past, choice-set, choice-kept, word-grown, set-grown}
 use Rattle.insertion.specs.WordWeight.{wordWeight, lighterOf}
-use Rattle.insertion.specs.Occupants.{Occupied}
-use Rattle.insertion.specs.OccupantsLaws.{occupied-same, free-untaken, cell-taken, occupied-more}
-use Rattle.insertion.specs.Inserted.{LightestWord, LightestWordWith, InsertedIs, WithKeyIs}
+use Rattle.insertion.specs.Occupants.{occupantsOf, Occupied}
+use Rattle.insertion.specs.OccupantsLaws.{occupied-same, free-untaken, cell-taken, occupied-more, occupied-only, occupied-of}
+use Rattle.insertion.specs.Inserted.{LightestWord, LightestWordWith, InsertedIs}
 use Rattle.insertion.specs.declared.Inserted.{Inserted}
 use Rattle.insertion.specs.declared.Inserted.the-variants.{Word, Nothing}
 
+-- The answer with key k is the word of the least sequence of the keys 0 to k.
+abbrev WithKeyIs : List ℕ → ℕ → Inserted → Type 0
+WithKeyIs places k r = insertedMeaning r ≡ Option·map wordOf (least (keysOf (k + 1) places))
+
 module _ (places : List ℕ) where
+  -- Before key k the word of the least sequence is the lightest,
+  pub start-lightest : (k word : ℕ)
+      → (k < groupMax) × Candidates places (k + 1) × (some word ≡ Option·map wordOf (least (keysOf k places)))
+      → LightestWord places k word
+  start-lightest k word (few, all, least) = word-lightest places k word (omega arith) least
+
+  -- and no two keys take one place under it.
+  pub start-occupied : (k word : ℕ) {cells : List ℕ}
+      → (k < groupMax) × Candidates places (k + 1) × (some word ≡ Option·map wordOf (least (keysOf k places)))
+      → cells ≡ occupantsOf places word k → Occupied places word k cells
+  start-occupied k word before same =
+      rw same (occupied-of places (candidates-fewer k (omega arith) (before .1)) (start-lightest k word before .lightest .separate))
+
   -- The state of an insertion of key k into a word: the displaced key is on its way to a place.
   pub record Inserting (k word choices place left : ℕ) : Type 0 where
     pub below : choices < 2 ^ (k + 1)
@@ -124,7 +146,7 @@ module _ (places : List ℕ) where
       (λ i lt b. refl) (λ i lt. choice-kept word k i lt) light
 
   -- The two insertions of key k, with bit k of the word clear and with it set.
-  module _ (k word : ℕ) (below : word < 2 ^ k) where
+  module _ (k word : ℕ) (few : k < groupMax) (below : word < 2 ^ k) where
     first-lightest : {a : ℕ} → InsertedIs places k word (Word a) → LightestWordWith places k false a
     first-lightest first = rw (choice-past k word below) at first
 
@@ -137,10 +159,11 @@ module _ (places : List ℕ) where
     second-none : InsertedIs places k (setBit word k) Nothing → NoneWith (entryOf places) k true
     second-none second = rw (choice-set word k) at second
 
-    -- The lightest sequence of the keys up to k, as a word.
+    -- The lightest word of the keys up to k is the answer.
     lightest-up : (v : ℕ) → v < 2 ^ (k + 1) → Lightest (entryOf places) keyWeight (suc k) (choiceIn v)
-        → LightestWord places (k + 1) v
-    lightest-up v small light = record { below = small; lightest = rw (add-one k) light }
+        → WithKeyIs places k (Word v)
+    lightest-up v small light =
+        lightest-word places (k + 1) v (omega arith) (record { below = small; lightest = rw (add-one k) light })
 
     -- Where the first has no result, that of the second stays.
     pub second-stays : (r : Inserted) → InsertedIs places k word Nothing → InsertedIs places k (setBit word k) r
@@ -149,7 +172,9 @@ module _ (places : List ℕ) where
         let light = second-lightest second in
         lightest-up b (light .below)
         (only-lightest (entryOf places) keyWeight k true (choiceIn b) (light .lightest) (first-none first))
-    second-stays Nothing first second = neither-separate (entryOf places) k (first-none first) (second-none second)
+    second-stays Nothing first second =
+        nothing-word places (k + 1)
+        (neither-separate (entryOf places) k (first-none first) (second-none second) (k + 1) (omega arith))
 
     -- Where the first moved no key, its word stays: what is lighter would be lighter without key k.
     unmoved-stays : Lightest (entryOf places) keyWeight k (choiceIn word) → InsertedIs places k word (Word word)
@@ -179,31 +204,31 @@ module _ (places : List ℕ) where
           (rw (choice-past k word below) free))
 
       -- Where it is taken and the second is free, key k goes to its second place.
-      pub second-free : k ≤ 31 → (getD cells (entryOf places k false) 0 ≡ 0 → ⊥) → getD cells (entryOf places k true) 0 ≡ 0
+      pub second-free : (getD cells (entryOf places k false) 0 ≡ 0 → ⊥) → getD cells (entryOf places k true) 0 ≡ 0
           → WithKeyIs places k (Word (setBit word k))
-      second-free few busy free =
+      second-free busy free =
           let lit = set-lightest k word light in
           let grown = set-grown k word below in
           let own =
           second-lightest
           (inserting-done (inserting-start k (setBit word k) grown lit) occupied-set lit (rw (choice-set word k) free)) in
           lightest-up (setBit word k) grown
-          (second-place-lightest (entryOf places) k few (choiceIn word) (choiceIn (setBit word k)) light (choice-kept word k)
+          (second-place-lightest (entryOf places) k (omega arith) (choiceIn word) (choiceIn (setBit word k)) light (choice-kept word k)
           (choice-set word k) (cell-taken places occupied (entryOf places k false) busy) (own .lightest))
 
       -- The cells then.
       module _ (all : Candidates places (k + 1)) where
         pub first-occupied : getD cells (entryOf places k false) 0 ≡ 0
-            → Occupied places word (k + 1) (set cells (entryOf places k false) (k + 1))
+            → set cells (entryOf places k false) (k + 1) ≡ occupantsOf places word (k + 1)
         first-occupied free =
-            occupied-more places occupied (entryOf places k false) (rw (choice-past k word below) refl)
-            (all .below k (omega arith) false) free
+            occupied-only places (occupied-more places occupied (entryOf places k false) (rw (choice-past k word below) refl)
+            (all .below k (omega arith) false) free)
 
         pub second-occupied : getD cells (entryOf places k true) 0 ≡ 0
-            → Occupied places (setBit word k) (k + 1) (set cells (entryOf places k true) (k + 1))
+            → set cells (entryOf places k true) (k + 1) ≡ occupantsOf places (setBit word k) (k + 1)
         second-occupied free =
-            occupied-more places occupied-set (entryOf places k true) (rw (choice-set word k) refl)
-            (all .below k (omega arith) true) free
+            occupied-only places (occupied-more places occupied-set (entryOf places k true) (rw (choice-set word k) refl)
+            (all .below k (omega arith) true) free)
 
     -- Where the second has none, that of the first stays.
     pub first-stays : (a : ℕ) → InsertedIs places k word (Word a) → InsertedIs places k (setBit word k) Nothing

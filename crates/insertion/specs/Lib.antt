@@ -1,9 +1,13 @@
 pub mod Entry
 pub mod EntryLaws
+pub mod Keys
+pub mod KeysLaws
 pub mod WordBits
 pub mod WordBitsLaws
 pub mod WordWeight
+pub mod Answer
 pub mod Occupants
 pub mod OccupantsLaws
 pub mod Inserted
+pub mod LeastWordLaws
 pub mod InsertedLaws

@@ -2,14 +2,18 @@
 -- lighter of them stays. Assumes nothing.
 use borrow.Author.Needs.{needs}
 use Rattle.insertion.specs.WordBitsLaws.{word-grown, set-grown}
-use Rattle.insertion.specs.InsertedLaws.{set-lightest, occupied-set, second-stays, first-stays, lighter-stays}
+use Rattle.insertion.specs.InsertedLaws.{start-lightest, start-occupied, set-lightest, occupied-set, second-stays, first-stays, lighter-stays}
 use Rattle.insertion.proofs.evicting.Statement.{statement}
 use Rattle.insertion.proofs.evicting.Tie as tie
 
 insert-requires : tie.Need-insert-requires
 insert-requires c κs =
-    let pre = c .before .before .pre in
-    ((pre .0 .0, pre .0 .1, word-grown _ _ (pre .0 .2 .below)), (pre .0 .2 .lightest, pre .1))
+    let start = c .before .before in
+    let pre = start .pre in
+    let a = start .args in
+    let light = start-lightest (a .places .now) (a .k) (a .word) (pre .0) in
+    let cells = start-occupied (a .places .now) (a .k) (a .word) (pre .0) (pre .1) in
+    ((pre .0 .0, pre .0 .1, word-grown _ _ (light .below)), (light .lightest, cells))
 
 enum-known-a : tie.Need-enum-known-a
 enum-known-a c = search needs
@@ -24,11 +28,12 @@ insert-requires-2 : tie.Need-insert-requires-2
 insert-requires-2 c κs =
     let start = c .before .before .before .before .before .before in
     let pre = start .pre in
-    let below = pre .0 .2 .below in
-    let light = pre .0 .2 .lightest in
-    let lit = set-lightest _ _ _ light in
-    let cells = occupied-set _ _ _ below light (pre .1) in
-    rw (c .with-bit .ensures) ((pre .0 .0, pre .0 .1, set-grown _ _ below), (lit, cells))
+    let a = start .args in
+    let light = start-lightest (a .places .now) (a .k) (a .word) (pre .0) in
+    let before = start-occupied (a .places .now) (a .k) (a .word) (pre .0) (pre .1) in
+    let lit = set-lightest _ _ _ (light .lightest) in
+    let cells = occupied-set _ _ _ (pre .0 .0) (light .below) (light .lightest) before in
+    rw (c .with-bit .ensures) ((pre .0 .0, pre .0 .1, set-grown _ _ (light .below)), (lit, cells))
 
 returns : tie.Need-returns
 returns c =
@@ -38,7 +43,8 @@ returns c =
     let first = rw (told .enum-told .given .1) at (inserted .insert .ensures) in
     let second = rw (c .before .with-bit .ensures) at (c .insert2 .ensures) in
     let a = start .args in
-    second-stays (a .places .now) (a .k) (a .word) (start .pre .0 .2 .below) (c .insert2 .result) first second
+    let light = start-lightest (a .places .now) (a .k) (a .word) (start .pre .0) in
+    second-stays _ _ _ (start .pre .0 .0) (light .below) (c .insert2 .result) first second
 
 with-bit-requires-2 : tie.Need-with-bit-requires-2
 with-bit-requires-2 c κs = search needs
@@ -47,11 +53,12 @@ insert-requires-3 : tie.Need-insert-requires-3
 insert-requires-3 c κs =
     let start = c .before .before .before .before .before .before .before in
     let pre = start .pre in
-    let below = pre .0 .2 .below in
-    let light = pre .0 .2 .lightest in
-    let lit = set-lightest _ _ _ light in
-    let cells = occupied-set _ _ _ below light (pre .1) in
-    rw (c .with-bit2 .ensures) ((pre .0 .0, pre .0 .1, set-grown _ _ below), (lit, cells))
+    let a = start .args in
+    let light = start-lightest (a .places .now) (a .k) (a .word) (pre .0) in
+    let before = start-occupied (a .places .now) (a .k) (a .word) (pre .0) (pre .1) in
+    let lit = set-lightest _ _ _ (light .lightest) in
+    let cells = occupied-set _ _ _ (pre .0 .0) (light .below) (light .lightest) before in
+    rw (c .with-bit2 .ensures) ((pre .0 .0, pre .0 .1, set-grown _ _ (light .below)), (lit, cells))
 
 enum-known-b : tie.Need-enum-known-b
 enum-known-b c = search needs
@@ -68,7 +75,8 @@ returns-2 c =
     let first = rw (known .a .given .1) at (inserted .insert .ensures) in
     let second = rw (both .before .with-bit2 .ensures, c .enum-told2 .given .1) at (both .insert3 .ensures) in
     let a = start .args in
-    first-stays (a .places .now) (a .k) (a .word) (start .pre .0 .2 .below) _ first second
+    let light = start-lightest (a .places .now) (a .k) (a .word) (start .pre .0) in
+    first-stays _ _ _ (start .pre .0 .0) (light .below) _ first second
 
 add-lighter : tie.Need-add-lighter
 add-lighter c = search needs
@@ -86,7 +94,8 @@ returns-3 c =
     let first = rw (known .a .given .1) at (inserted .insert .ensures) in
     let second = rw (both .before .with-bit2 .ensures, known2 .b .given .1) at (both .insert3 .ensures) in
     let a = start .args in
-    rw (c .lighter .ensures) (lighter-stays (a .places .now) (a .k) (a .word) (start .pre .0 .2 .below) _ _ first second)
+    let light = start-lightest (a .places .now) (a .k) (a .word) (start .pre .0) in
+    rw (c .lighter .ensures) (lighter-stays _ _ _ (start .pre .0 .0) (light .below) _ _ first second)
 
 pub evicting-spec : {M : Type 1} → statement M
 evicting-spec =
