@@ -7,7 +7,7 @@ use borrow.Author.Needs.{needs}
 use Rattle.insertion.specs.EntryLaws.{entry-first, entry-second, first-below, second-below}
 use Rattle.insertion.specs.Occupants.{occupantsAfter}
 use Rattle.insertion.specs.LeastWordLaws.{word-lightest}
-use Rattle.insertion.specs.InsertedLaws.{start-lightest, start-occupied, first-free, second-free, first-occupied, second-occupied}
+use Rattle.insertion.specs.InsertedLaws.{cells-size, first-free, second-free, first-occupied, second-occupied}
 use Rattle.insertion.proofs.with_key.Statement.{statement}
 use Rattle.insertion.proofs.with_key.Tie as tie
 
@@ -52,11 +52,9 @@ returns c =
     let pre = start .pre in
     let a = start .args in
     let free = rw (entry-first (a .places .now) (a .k)) at (c .if1 .taken) in
-    let light = start-lightest (a .places .now) (a .k) (a .word) (pre .0) in
-    let before = start-occupied (a .places .now) (a .k) (a .word) (pre .0) (pre .1) in
     rw (entry-first (a .places .now) (a .k)) (
-      first-free _ _ _ (pre .0 .0) (light .below) (light .lightest) before free,
-      first-occupied _ _ _ (pre .0 .0) (light .below) (light .lightest) before (pre .0 .1) free,
+      first-free _ _ _ (pre .0) (pre .1) free,
+      first-occupied _ _ _ (pre .0) (pre .1) free,
     )
 
 add-second : tie.Need-add-second
@@ -109,11 +107,9 @@ returns-2 c =
     let a = start .args in
     let busy = rw (entry-first (a .places .now) (a .k)) at (first .if1 .left) in
     let free = rw (entry-second (a .places .now) (a .k)) at (second .if2 .taken) in
-    let light = start-lightest (a .places .now) (a .k) (a .word) (pre .0) in
-    let before = start-occupied (a .places .now) (a .k) (a .word) (pre .0) (pre .1) in
     rw (c .with-bit .ensures, entry-second (a .places .now) (a .k)) (
-      second-free _ _ _ (pre .0 .0) (light .below) (light .lightest) before busy free,
-      second-occupied _ _ _ (pre .0 .0) (light .below) (light .lightest) before (pre .0 .1) free,
+      second-free _ _ _ (pre .0) (pre .1) free busy,
+      second-occupied _ _ _ (pre .0) (pre .1) free,
     )
 
 evicting-requires : tie.Need-evicting-requires
@@ -141,8 +137,7 @@ occupy-requires c κs =
     let a = start .args in
     let next = rw (known .next .given .1) at (evicted .evicting .ensures) in
     let light = word-lightest (a .places .now) (a .k + 1) _ (omega arith) next in
-    let before = start-occupied (a .places .now) (a .k) (a .word) (pre .0) (pre .1) in
-    ((omega arith, pre .0 .1, before .size), light .lightest .separate)
+    ((omega arith, pre .0 .1, cells-size _ _ _ (pre .0) (pre .1)), light .lightest .separate)
 
 returns-4 : tie.Need-returns-4
 unfolding occupantsAfter
