@@ -22,8 +22,8 @@ use Rattle.insertion.specs.EntryLaws.{entry-other, entry-part, candidate
 use Rattle.insertion.specs.Keys.{keysOf}
 use Rattle.insertion.specs.Answer.{insertedMeaning}
 use Rattle.insertion.specs.LeastWordLaws.{lightest-word, word-lightest, nothing-word}
-use Rattle.insertion.specs.WordBits.{choiceIn, toggleBit}
-use Rattle.insertion.specs.WordBitsLaws.{choiceNumber-same, toggle-below, toggle-toggled, choice-past, choice-set, choice-kept, word-grown, set-grown}
+use Rattle.bits.specs.WordBits.{choiceIn, toggleBit}
+use Rattle.bits.specs.WordBitsLaws.{choiceNumber-same, toggle-below, toggle-toggled, choice-past, choice-set, choice-kept, word-grown, set-grown}
 use Rattle.insertion.specs.WordWeight.{wordWeight, lighterOf}
 use Rattle.insertion.specs.Occupants.{occupantsOf, Occupied}
 use Rattle.insertion.specs.OccupantsLaws.{occupied-same, free-untaken, cell-taken, occupied-more, occupied-only, occupied-of}

@@ -21,8 +21,8 @@ use Rattle.filling.specs.Insertion.{Separate, Lightest}
 use Rattle.filling.specs.InsertionLaws.{lightest-same}
 use Rattle.filling.specs.LightestLaws.{placeIn, lightest-least}
 use Rattle.insertion.specs.Entry.{entryOf}
-use Rattle.insertion.specs.WordBits.{choiceIn}
-use Rattle.insertion.specs.WordBitsLaws.{choicesOf-at}
+use Rattle.bits.specs.WordBits.{choiceIn}
+use Rattle.bits.specs.WordBitsLaws.{choicesOf-at}
 use Rattle.insertion.specs.Inserted.{LightestWord}
 use Rattle.insertion.specs.Keys.{keysOf}
 use Rattle.insertion.specs.KeysLaws.{keysOf-length, keysOf-place}

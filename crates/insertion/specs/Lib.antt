@@ -2,9 +2,8 @@ pub mod Entry
 pub mod EntryLaws
 pub mod Keys
 pub mod KeysLaws
-pub mod WordBits
-pub mod WordBitsLaws
 pub mod WordWeight
+pub mod WordWeightLaws
 pub mod Answer
 pub mod Occupants
 pub mod OccupantsLaws

@@ -1,10 +1,9 @@
 // Weighted insertion: a key goes in with either choice, occupants are evicted to their other places, and the lighter word stays.
 mod weight;
-pub mod word;
 
 use crate::weight::lighter;
-use crate::word::choice_at;
-use crate::word::toggled;
+use bits::choice_at;
+use bits::toggled;
 ghost use mathlib.Core.Path.{_≡_};
 ghost use mathlib.Core.Bool.{true, false};
 ghost use mathlib.Core.Option.{some, Option·map};
@@ -15,7 +14,7 @@ ghost use Rattle.filling.specs.Least.{least};
 ghost use Rattle.filling.specs.Word.{wordOf};
 ghost use Rattle.filling.specs.Weight.{keyWeight};
 ghost use Rattle.filling.specs.Insertion.{Separate, Lightest};
-ghost use Rattle.insertion.specs.WordBits.{choiceIn};
+ghost use Rattle.bits.specs.WordBits.{choiceIn};
 ghost use Rattle.insertion.specs.Entry.{entryOf, Candidates};
 ghost use Rattle.insertion.specs.Keys.{keysOf};
 ghost use Rattle.insertion.specs.Answer.{insertedMeaning};

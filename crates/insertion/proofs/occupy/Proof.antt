@@ -4,7 +4,7 @@ use mathlib.Core.Path.{_≡_, refl}
 use native.Mathlib.Omega.{arith}
 use borrow.Author.Needs.{needs}
 use Rattle.refusal.specs.Limits.{groupMax}
-use Rattle.insertion.specs.WordBits.{choiceIn}
+use Rattle.bits.specs.WordBits.{choiceIn}
 use Rattle.insertion.specs.Occupants.{Occupied}
 use Rattle.insertion.specs.OccupantsLaws.{Cleared, cleared-turn, occupied-none, separate-free, occupied-more, occupied-only}
 use Rattle.insertion.proofs.occupy.Statement.{statement}
