@@ -10,7 +10,7 @@ use lib.Seq.{getD-set-same, getD-set-other}
 use borrow.Author.Tests.{ltb-true, ltb-false}
 use Rattle.hash.specs.Formula.{hashed, multiplier}
 use Rattle.group.specs.Group.{taken}
-use Rattle.insertion.specs.WordBits.{choiceIn}
+use Rattle.bits.specs.WordBits.{choiceIn}
 use Rattle.numbering.specs.GroupSlots.{groupSlots}
 use Rattle.arrange.specs.Arrange.{Arrangeable}
 use Rattle.arrange.specs.PlaceLaws.{placeWith, place-computed, place-fits, places-apart, slots-of-places}

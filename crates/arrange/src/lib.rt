@@ -5,7 +5,7 @@ ghost use mathlib.Core.List.{_++_};
 ghost use Prim.Native.Nat.{_<_};
 ghost use lib.ListN.{length, drop};
 ghost use Rattle.group.specs.Group.{taken};
-ghost use Rattle.insertion.specs.WordBits.{choiceIn};
+ghost use Rattle.bits.specs.WordBits.{choiceIn};
 ghost use Rattle.numbering.specs.Parts.{partStart};
 ghost use Rattle.numbering.specs.GroupSlots.{groupSlots};
 ghost use Rattle.arrange.specs.Arrange.{Arrangeable, AllArrangeable, allSlots};
@@ -61,7 +61,7 @@ fn multiplier_at(word: u32, i: u32, first: u32, second: u32) -> u32
     requires { ⌜ i < 32 ⌝ }
     ensures answer { λ r. ⌜ r ≡ cond (choiceIn word i) second first ⌝ }
 {
-    if insertion::word::choice_at(word, i) == 1 {
+    if bits::choice_at(word, i) == 1 {
         second
     } else {
         first

@@ -3,28 +3,48 @@ use Prim.Native.Nat.{ℕ, suc, _+_, _-_, _^_, _≤_, _<_}
 use mathlib.Core.Path.{_≡_, refl, sym, _∙_, ap}
 use mathlib.Core.Bool.{Bool, true, false, cond}
 use mathlib.Core.List.{List}
+use mathlib.Core.Option.{some, Option·map}
 use native.Mathlib.Numerals.{add-one}
 use native.Mathlib.Omega.{arith}
 use lib.Dec.{ltb}
-use lib.ListN.{getD, set}
+use lib.ListN.{length, getD, set}
 use borrow.Author.Tests.{ltb-true, ltb-false}
 use Rattle.refusal.specs.Limits.{groupMax}
 use Rattle.bits.specs.Bit.{setBit}
-use Rattle.filling.specs.Word.{choiceNumber}
+use Rattle.filling.specs.Word.{choiceNumber, wordOf}
+use Rattle.filling.specs.Least.{least}
 use Rattle.filling.specs.Weight.{keyWeight, choiceWeight, total}
 use Rattle.filling.specs.Insertion.{Lightest, NoneWith, Occupies, Insertion, Walk}
 use Rattle.filling.specs.InsertionLaws.{insertion-start, insertion-turn, insertion-done, insertion-stuck, insertion-returned, walk-start, walk-free, walk-occupied, walk-returned, walk-turn, lighter-lightest, only-lightest, neither-separate, lightest-same}
 use Rattle.filling.specs.LightestLaws.{second-place-lightest}
 use Rattle.insertion.specs.Entry.{entryOf, Candidates}
-use Rattle.insertion.specs.EntryLaws.{entry-other, entry-part}
-use Rattle.insertion.specs.WordBits.{choiceIn, toggleBit}
-use Rattle.insertion.specs.WordBitsLaws.{choiceNumber-same, toggle-below, toggle-toggled, choice-past, choice-set, choice-kept, word-grown, set-grown}
+use Rattle.insertion.specs.EntryLaws.{entry-other, entry-part, candidates-fewer}
+use Rattle.insertion.specs.Keys.{keysOf}
+use Rattle.insertion.specs.Answer.{insertedMeaning}
+use Rattle.insertion.specs.LeastWordLaws.{lightest-word, word-lightest, nothing-word}
+use Rattle.bits.specs.WordBits.{choiceIn, toggleBit}
+use Rattle.bits.specs.WordBitsLaws.{choiceNumber-same, toggle-below, toggle-toggled, choice-past, choice-set, choice-kept, word-grown, set-grown}
 use Rattle.insertion.specs.WordWeight.{wordWeight, lighterOf}
-use Rattle.insertion.specs.Occupants.{Occupied}
-use Rattle.insertion.specs.OccupantsLaws.{occupied-same, free-untaken, cell-taken, occupied-more}
-use Rattle.insertion.specs.Inserted.{LightestWord, LightestWordWith, InsertedIs, WithKeyIs}
+use Rattle.insertion.specs.Occupants.{occupantsOf, Occupied}
+use Rattle.insertion.specs.OccupantsLaws.{occupied-same, free-untaken, cell-taken, occupied-more, occupied-only, occupied-of}
+use Rattle.insertion.specs.Inserted.{LightestWord, LightestWordWith, InsertedIs}
 use Rattle.insertion.specs.declared.Inserted.{Inserted}
 use Rattle.insertion.specs.declared.Inserted.the-variants.{Word, Nothing}
+
+-- The answer with key k is the word of the least sequence of the keys 0 to k.
+abbrev WithKeyIs : List ℕ → ℕ → Inserted → Type 0
+WithKeyIs places k r = insertedMeaning r ≡ Option·map wordOf (least (keysOf (k + 1) places))
+
+-- Before it: the word of the least sequence of the keys before k.
+abbrev Before : List ℕ → ℕ → ℕ → Type 0
+Before places k word =
+    (k < groupMax) × Candidates places (k + 1) × (some word ≡ Option·map wordOf (least (keysOf k places)))
+
+-- What inserting key k with the word's choice wants.
+abbrev Ready : List ℕ → ℕ → ℕ → List ℕ → Type 0
+Ready places k word cells =
+    ((k < groupMax) × Candidates places (k + 1) × (word < 2 ^ (k + 1)))
+    × (Lightest (entryOf places) keyWeight k (choiceIn word) × Occupied places word k cells)
 
 module _ (places : List ℕ) where
   -- The state of an insertion of key k into a word: the displaced key is on its way to a place.
@@ -116,20 +136,26 @@ module _ (places : List ℕ) where
                 (toggle-toggled choices o);
           }
 
-  -- The lightest word of k keys, with bit k set, still is.
-  pub set-lightest : (k word : ℕ) → Lightest (entryOf places) keyWeight k (choiceIn word)
-      → Lightest (entryOf places) keyWeight k (choiceIn (setBit word k))
-  set-lightest k word light =
-      lightest-same (entryOf places) (entryOf places) keyWeight k (choiceIn word) (choiceIn (setBit word k))
-      (λ i lt b. refl) (λ i lt. choice-kept word k i lt) light
+  -- The two insertions of key k into the word of the least sequence before it, with bit k clear and with it set.
+  module _ (k word : ℕ) (before : Before places k word) where
+    -- The word is the lightest,
+    was : LightestWord places k word
+    was = word-lightest places k word (omega (arith, before .0)) (before .2)
 
-  -- The two insertions of key k, with bit k of the word clear and with it set.
-  module _ (k word : ℕ) (below : word < 2 ^ k) where
+    past : choiceIn word k ≡ false
+    past = choice-past k word (was .below)
+
+    -- with bit k set as well.
+    set-lightest : Lightest (entryOf places) keyWeight k (choiceIn (setBit word k))
+    set-lightest =
+        lightest-same (entryOf places) (entryOf places) keyWeight k (choiceIn word) (choiceIn (setBit word k))
+        (λ i lt b. refl) (choice-kept word k) (was .lightest)
+
     first-lightest : {a : ℕ} → InsertedIs places k word (Word a) → LightestWordWith places k false a
-    first-lightest first = rw (choice-past k word below) at first
+    first-lightest first = rw past at first
 
     first-none : InsertedIs places k word Nothing → NoneWith (entryOf places) k false
-    first-none first = rw (choice-past k word below) at first
+    first-none first = rw past at first
 
     second-lightest : {b : ℕ} → InsertedIs places k (setBit word k) (Word b) → LightestWordWith places k true b
     second-lightest second = rw (choice-set word k) at second
@@ -137,10 +163,11 @@ module _ (places : List ℕ) where
     second-none : InsertedIs places k (setBit word k) Nothing → NoneWith (entryOf places) k true
     second-none second = rw (choice-set word k) at second
 
-    -- The lightest sequence of the keys up to k, as a word.
+    -- The lightest word of the keys up to k is the answer.
     lightest-up : (v : ℕ) → v < 2 ^ (k + 1) → Lightest (entryOf places) keyWeight (suc k) (choiceIn v)
-        → LightestWord places (k + 1) v
-    lightest-up v small light = record { below = small; lightest = rw (add-one k) light }
+        → WithKeyIs places k (Word v)
+    lightest-up v small light =
+        lightest-word places (k + 1) v (omega (arith, before .0)) (record { below = small; lightest = rw (add-one k) light })
 
     -- Where the first has no result, that of the second stays.
     pub second-stays : (r : Inserted) → InsertedIs places k word Nothing → InsertedIs places k (setBit word k) r
@@ -149,61 +176,72 @@ module _ (places : List ℕ) where
         let light = second-lightest second in
         lightest-up b (light .below)
         (only-lightest (entryOf places) keyWeight k true (choiceIn b) (light .lightest) (first-none first))
-    second-stays Nothing first second = neither-separate (entryOf places) k (first-none first) (second-none second)
+    second-stays Nothing first second =
+        nothing-word places (k + 1)
+        (neither-separate (entryOf places) k (first-none first) (second-none second) (k + 1) (omega arith))
 
     -- Where the first moved no key, its word stays: what is lighter would be lighter without key k.
-    unmoved-stays : Lightest (entryOf places) keyWeight k (choiceIn word) → InsertedIs places k word (Word word)
-        → WithKeyIs places k (Word word)
+    unmoved-stays : InsertedIs places k word (Word word) → WithKeyIs places k (Word word)
     unfolding total choiceWeight
-    unmoved-stays light first =
+    unmoved-stays first =
         let own = first-lightest first in
         lightest-up word (own .below) (record {
           separate = own .lightest .separate;
           lightest = λ f apart.
-              let before = light .lightest f (λ i j li lj same. apart i j (omega arith) (omega arith) same) in
-              rw (choice-past k word below) (omega (arith, before));
+              let less = was .lightest .lightest f (λ i j li lj same. apart i j (omega arith) (omega arith) same) in
+              rw past (omega (arith, less));
         })
 
-    -- The cells of the keys before k.
-    module _ {cells : List ℕ} (light : Lightest (entryOf places) keyWeight k (choiceIn word))
-        (occupied : Occupied places word k cells) where
-      -- They are those of the word with bit k set.
-      pub occupied-set : Occupied places (setBit word k) k cells
+    -- The cells are those of the keys before k.
+    module _ {cells : List ℕ} (same : cells ≡ occupantsOf places word k) where
+      occupied : Occupied places word k cells
+      occupied =
+          rw same (occupied-of places (candidates-fewer k (omega arith) (before .1)) (was .lightest .separate))
+
+      occupied-set : Occupied places (setBit word k) k cells
       occupied-set = occupied-same places word (setBit word k) k (choice-kept word k) occupied
 
+      pub cells-size : length cells ≡ groupMax
+      cells-size = occupied .size
+
+      -- So key k can be inserted with choice 0 and with choice 1.
+      pub first-ready : Ready places k word cells
+      first-ready = ((before .0, before .1, word-grown k word (was .below)), (was .lightest, occupied))
+
+      pub second-ready : Ready places k (setBit word k) cells
+      second-ready = ((before .0, before .1, set-grown k word (was .below)), (set-lightest, occupied-set))
+
       -- Where the first place of key k is free, key k goes there.
-      pub first-free : getD cells (entryOf places k false) 0 ≡ 0 → WithKeyIs places k (Word word)
-      first-free free =
-          unmoved-stays light
-          (inserting-done (inserting-start k word (word-grown k word below) light) occupied light
-          (rw (choice-past k word below) free))
+      module _ (free : getD cells (entryOf places k false) 0 ≡ 0) where
+        pub first-free : WithKeyIs places k (Word word)
+        first-free =
+            unmoved-stays
+            (inserting-done (inserting-start k word (word-grown k word (was .below)) (was .lightest)) occupied (was .lightest)
+            (rw past free))
+
+        pub first-occupied : set cells (entryOf places k false) (k + 1) ≡ occupantsOf places word (k + 1)
+        first-occupied =
+            occupied-only places (occupied-more places occupied (entryOf places k false) (rw past refl)
+            (before .1 .below k (omega arith) false) free)
 
       -- Where it is taken and the second is free, key k goes to its second place.
-      pub second-free : k ≤ 31 → (getD cells (entryOf places k false) 0 ≡ 0 → ⊥) → getD cells (entryOf places k true) 0 ≡ 0
-          → WithKeyIs places k (Word (setBit word k))
-      second-free few busy free =
-          let lit = set-lightest k word light in
-          let grown = set-grown k word below in
-          let own =
-          second-lightest
-          (inserting-done (inserting-start k (setBit word k) grown lit) occupied-set lit (rw (choice-set word k) free)) in
-          lightest-up (setBit word k) grown
-          (second-place-lightest (entryOf places) k few (choiceIn word) (choiceIn (setBit word k)) light (choice-kept word k)
-          (choice-set word k) (cell-taken places occupied (entryOf places k false) busy) (own .lightest))
+      module _ (free : getD cells (entryOf places k true) 0 ≡ 0) where
+        pub second-free : (getD cells (entryOf places k false) 0 ≡ 0 → ⊥) → WithKeyIs places k (Word (setBit word k))
+        second-free busy =
+            let grown = set-grown k word (was .below) in
+            let own =
+            second-lightest
+            (inserting-done (inserting-start k (setBit word k) grown set-lightest) occupied-set set-lightest
+            (rw (choice-set word k) free)) in
+            lightest-up (setBit word k) grown
+            (second-place-lightest (entryOf places) k (omega (arith, before .0)) (choiceIn word) (choiceIn (setBit word k))
+            (was .lightest) (choice-kept word k) (choice-set word k)
+            (cell-taken places occupied (entryOf places k false) busy) (own .lightest))
 
-      -- The cells then.
-      module _ (all : Candidates places (k + 1)) where
-        pub first-occupied : getD cells (entryOf places k false) 0 ≡ 0
-            → Occupied places word (k + 1) (set cells (entryOf places k false) (k + 1))
-        first-occupied free =
-            occupied-more places occupied (entryOf places k false) (rw (choice-past k word below) refl)
-            (all .below k (omega arith) false) free
-
-        pub second-occupied : getD cells (entryOf places k true) 0 ≡ 0
-            → Occupied places (setBit word k) (k + 1) (set cells (entryOf places k true) (k + 1))
-        second-occupied free =
-            occupied-more places occupied-set (entryOf places k true) (rw (choice-set word k) refl)
-            (all .below k (omega arith) true) free
+        pub second-occupied : set cells (entryOf places k true) (k + 1) ≡ occupantsOf places (setBit word k) (k + 1)
+        second-occupied =
+            occupied-only places (occupied-more places occupied-set (entryOf places k true) (rw (choice-set word k) refl)
+            (before .1 .below k (omega arith) true) free)
 
     -- Where the second has none, that of the first stays.
     pub first-stays : (a : ℕ) → InsertedIs places k word (Word a) → InsertedIs places k (setBit word k) Nothing

@@ -1,9 +1,12 @@
 pub mod Entry
 pub mod EntryLaws
-pub mod WordBits
-pub mod WordBitsLaws
+pub mod Keys
+pub mod KeysLaws
 pub mod WordWeight
+pub mod WordWeightLaws
+pub mod Answer
 pub mod Occupants
 pub mod OccupantsLaws
 pub mod Inserted
+pub mod LeastWordLaws
 pub mod InsertedLaws

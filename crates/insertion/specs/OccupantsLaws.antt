@@ -1,16 +1,24 @@
--- The laws of the cells of occupants: one key more at a free place, and the same choices. Assumes nothing.
+-- The laws of the cells of occupants: one key more at a free place, the same choices, and that they are `occupantsOf`.
+-- Assumes nothing.
 use Prim.Native.Nat.{ℕ, zero, suc, _+_, _-_, _≤_, _<_}
 use mathlib.Core.Path.{_≡_, refl, sym, _∙_}
+use mathlib.Core.Bool.{Bool}
 use mathlib.Core.List.{List}
+use mathlib.Core.Option.{Option, none, some}
 use native.Mathlib.Decide.{ℕ-discrete, decLt}
 use native.Mathlib.Omega.{arith}
+use lib.Dec.{eqb}
 use lib.ListN.{length, getD, set, replicate, length-set, length-replicate, getD-replicate, List·getD-eq-default}
-use lib.Seq.{getD-set-same, getD-set-other}
+use lib.Seq.{ext-getD, getD-set-same, getD-set-other}
+use borrow.Author.Tests.{eqb-true, eq-eqb, ne-eqb}
 use Rattle.refusal.specs.Limits.{groupMax}
+use Rattle.lists.specs.FirstLaws.{first-some, first-found, first-out}
+use Rattle.lists.specs.UpTo.{upTo}
+use Rattle.lists.specs.UpToLaws.{upTo-length, upTo-at}
 use Rattle.filling.specs.Insertion.{Separate, Taken}
-use Rattle.insertion.specs.Entry.{entryOf}
-use Rattle.insertion.specs.WordBits.{choiceIn}
-use Rattle.insertion.specs.Occupants.{Occupied}
+use Rattle.insertion.specs.Entry.{entryOf, Candidates}
+use Rattle.bits.specs.WordBits.{choiceIn}
+use Rattle.insertion.specs.Occupants.{cellOf, keyIn, occupantsOf, Occupied}
 
 -- The first v of the cells are 0.
 pub record Cleared (v : ℕ) (cells : List ℕ) : Type 0 where
@@ -115,3 +123,62 @@ module _ (places : List ℕ) where
         who′ u o e (no n) =
             let (lt, was) = old .who u o (sym (getD-set-other cells v u (count + 1) 0 n) ∙ e) in
             (omega arith, was)
+
+    -- Such cells are the occupants: there are no others.
+    pub occupied-only : cells ≡ occupantsOf places word count
+    unfolding occupantsOf cellOf
+    occupied-only =
+        ext-getD 0 cells (upTo groupMax (λ v. cellOf (keyIn places word count v)))
+        (old .size ∙ sym (upTo-length groupMax (λ v. cellOf (keyIn places word count v))))
+        (λ v lt.
+        let here : v < groupMax = omega (arith, old .size) in
+        go v (getD cells v 0) refl ∙ sym (upTo-at groupMax (λ v. cellOf (keyIn places word count v)) 0 v here))
+      where
+        go : (v x : ℕ) → getD cells v 0 ≡ x → getD cells v 0 ≡ cellOf (keyIn places word count v)
+        go v zero e =
+            rw (first-out (λ i. eqb (entryOf places i (choiceIn word i)) v) count (λ j lt.
+            ne-eqb (entryOf places j (choiceIn word j)) v (λ at. free-untaken v e (j, lt, at)))) e
+        go v (suc o) e =
+            let (lt, at) = old .who v o (omega (arith, e)) in
+            rw (first-found (λ i. eqb (entryOf places i (choiceIn word i)) v) count o lt
+            (eq-eqb (entryOf places o (choiceIn word o)) v at) (λ j below.
+            ne-eqb (entryOf places j (choiceIn word j)) v (λ z. omega (arith, e, rw z at (old .sits j (omega arith)))))) (omega (arith, e))
+
+  -- The occupants of keys of which no two take one place are such cells.
+  pub occupied-of : {word count : ℕ} → Candidates places count → Separate (entryOf places) count (choiceIn word)
+      → Occupied places word count (occupantsOf places word count)
+  unfolding occupantsOf cellOf
+  occupied-of {word} {count} all apart = record {
+    size = upTo-length groupMax cell;
+    sits = λ i lt.
+        upTo-at groupMax cell 0 (entryOf places i (choiceIn word i)) (all .below i lt (choiceIn word i)) ∙ sits′ i lt;
+    who = λ v o e. who′ v o (decLt v groupMax) e;
+  }
+    where
+      test : ℕ → ℕ → Bool
+      test v i = eqb (entryOf places i (choiceIn word i)) v
+
+      cell : ℕ → ℕ
+      cell v = cellOf (keyIn places word count v)
+
+      sits′ : (i : ℕ) → i < count → cell (entryOf places i (choiceIn word i)) ≡ i + 1
+      sits′ i lt =
+          rw (first-found (test (entryOf places i (choiceIn word i))) count i lt
+          (eq-eqb (entryOf places i (choiceIn word i)) (entryOf places i (choiceIn word i)) refl)
+          (λ j below. ne-eqb (entryOf places j (choiceIn word j)) (entryOf places i (choiceIn word i)) (λ z.
+          omega (arith, apart j i (omega arith) lt z))))
+
+      found : (v o : ℕ) (f : Option ℕ) → keyIn places word count v ≡ f → cellOf f ≡ o + 1
+          → (o < count) × (entryOf places o (choiceIn word o) ≡ v)
+      found v o none e z = absurd (omega arith)
+      found v o (some i) e z =
+          let at = first-some (test v) count e in
+          let same : i ≡ o = omega arith in
+          rw (← same) (at .below, eqb-true (entryOf places i (choiceIn word i)) v (at .holds))
+
+      who′ : (v o : ℕ) → Dec (v < groupMax) → getD (upTo groupMax cell) v 0 ≡ o + 1
+          → (o < count) × (entryOf places o (choiceIn word o) ≡ v)
+      who′ v o (yes lt) e = found v o (keyIn places word count v) refl (sym (upTo-at groupMax cell 0 v lt) ∙ e)
+      who′ v o (no n) e =
+          let past : length (upTo groupMax cell) ≤ v = omega (arith, n, upTo-length groupMax cell) in
+          absurd (omega (arith, List·getD-eq-default (upTo groupMax cell) 0 past))

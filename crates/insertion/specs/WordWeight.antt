@@ -3,7 +3,7 @@ use Prim.Native.Nat.{ℕ}
 use mathlib.Core.Bool.{cond}
 use lib.Dec.{ltb}
 use Rattle.filling.specs.Weight.{keyWeight, total}
-use Rattle.insertion.specs.WordBits.{choiceIn}
+use Rattle.bits.specs.WordBits.{choiceIn}
 
 -- What the choices that a word has for the first `count` keys weigh together.
 abbrev pub wordWeight : ℕ → ℕ → ℕ

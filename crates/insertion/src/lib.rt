@@ -1,21 +1,25 @@
 // Weighted insertion: a key goes in with either choice, occupants are evicted to their other places, and the lighter word stays.
 mod weight;
-pub mod word;
 
 use crate::weight::lighter;
-use crate::word::choice_at;
-use crate::word::toggled;
+use bits::choice_at;
+use bits::toggled;
 ghost use mathlib.Core.Path.{_≡_};
 ghost use mathlib.Core.Bool.{true, false};
+ghost use mathlib.Core.Option.{some, Option·map};
 ghost use Prim.Native.Nat.{_+_, _*_, _-_, _^_, _≤_, _<_};
 ghost use lib.ListN.{length};
 ghost use Rattle.refusal.specs.Limits.{groupMax};
+ghost use Rattle.filling.specs.Least.{least};
+ghost use Rattle.filling.specs.Word.{wordOf};
 ghost use Rattle.filling.specs.Weight.{keyWeight};
 ghost use Rattle.filling.specs.Insertion.{Separate, Lightest};
-ghost use Rattle.insertion.specs.WordBits.{choiceIn};
+ghost use Rattle.bits.specs.WordBits.{choiceIn};
 ghost use Rattle.insertion.specs.Entry.{entryOf, Candidates};
-ghost use Rattle.insertion.specs.Occupants.{Occupied};
-ghost use Rattle.insertion.specs.Inserted.{LightestWord, InsertedIs, WithKeyIs, CellsAre};
+ghost use Rattle.insertion.specs.Keys.{keysOf};
+ghost use Rattle.insertion.specs.Answer.{insertedMeaning};
+ghost use Rattle.insertion.specs.Occupants.{occupantsOf, occupantsAfter, Occupied};
+ghost use Rattle.insertion.specs.Inserted.{InsertedIs};
 
 // A cell for each place of a group of the greatest size: 0, or one more than the index of the key that has the place.
 pub const OCCUPANT_CELLS: usize = refusal::GROUP_MAX as usize;
@@ -26,17 +30,18 @@ pub enum Inserted {
     Nothing,
 }
 
-// The lightest word with key k, from the lightest without it and the occupants under that; the cells become those under the word.
+// The word of the least sequence with key k, from that without it and the occupants under that; the cells become those under the
+// word answered, and stay where there is none.
 pub fn with_key(
     places: &[u32],
     word: u32,
     k: u32,
     occupants: &mut [u32; OCCUPANT_CELLS],
 ) -> Inserted
-    requires { ⌜ (k < groupMax) × Candidates (now places) (k + 1) × LightestWord (now places) k word ⌝ }
-    requires { ⌜ Occupied (now places) word k (now occupants) ⌝ }
-    ensures answer { λ r. ⌜ WithKeyIs (now (places .entry)) k r ⌝ }
-    ensures cells { λ r. ⌜ CellsAre (now (places .entry)) k r (now (occupants .entry)) (now (occupants .exit)) ⌝ }
+    requires { ⌜ (k < groupMax) × Candidates (now places) (k + 1) × (some word ≡ Option·map wordOf (least (keysOf k (now places)))) ⌝ }
+    requires { ⌜ now occupants ≡ occupantsOf (now places) word k ⌝ }
+    ensures answer { λ r. ⌜ insertedMeaning r ≡ Option·map wordOf (least (keysOf (k + 1) (now (places .entry)))) ⌝ }
+    ensures cells { λ r. ⌜ now (occupants .exit) ≡ occupantsAfter (now (places .entry)) k (now (occupants .entry)) (insertedMeaning r) ⌝ }
 {
     let first = places[k as usize] as usize;
     if occupants[first] == 0 {
@@ -58,9 +63,9 @@ pub fn with_key(
 
 // The lighter of the results of inserting key k with choice 0 and with choice 1.
 fn evicting(places: &[u32], word: u32, k: u32, occupants: &[u32]) -> Inserted
-    requires { ⌜ (k < groupMax) × Candidates (now places) (k + 1) × LightestWord (now places) k word ⌝ }
-    requires { ⌜ Occupied (now places) word k (now occupants) ⌝ }
-    ensures answer { λ r. ⌜ WithKeyIs (now (places .entry)) k r ⌝ }
+    requires { ⌜ (k < groupMax) × Candidates (now places) (k + 1) × (some word ≡ Option·map wordOf (least (keysOf k (now places)))) ⌝ }
+    requires { ⌜ now occupants ≡ occupantsOf (now places) word k ⌝ }
+    ensures answer { λ r. ⌜ insertedMeaning r ≡ Option·map wordOf (least (keysOf (k + 1) (now (places .entry)))) ⌝ }
 {
     let Inserted::Word(a) = insert(places, word, k, occupants) else {
         return insert(places, bits::with_bit(word, k), k, occupants);
@@ -113,7 +118,7 @@ fn other_place(places: &[u32], i: u32, place: u32) -> u32
 fn occupy(places: &[u32], word: u32, count: u32, occupants: &mut [u32; OCCUPANT_CELLS])
     requires { ⌜ (count ≤ groupMax) × Candidates (now places) count × (length (now occupants) ≡ groupMax) ⌝ }
     requires { ⌜ Separate (entryOf (now places)) count (choiceIn word) ⌝ }
-    ensures cells { λ _. ⌜ Occupied (now (places .entry)) word count (now (occupants .exit)) ⌝ }
+    ensures cells { λ _. ⌜ now (occupants .exit) ≡ occupantsOf (now (places .entry)) word count ⌝ }
 {
     let mut v = 0;
     while v < OCCUPANT_CELLS {

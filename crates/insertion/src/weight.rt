@@ -1,5 +1,5 @@
 // The weight of a choice word: the order of choices as a number. Another order of choices is another `key_weight`.
-use crate::word::choice_at;
+use bits::choice_at;
 ghost use mathlib.Core.Path.{_≡_};
 ghost use Prim.Native.Nat.{_≤_, _<_};
 ghost use Rattle.filling.specs.Weight.{keyWeight};

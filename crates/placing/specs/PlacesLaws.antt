@@ -16,8 +16,8 @@ use Rattle.candidates.specs.ArrayLaws.{group-cells, group-first, group-second}
 use Rattle.seeds.specs.Tried.{tried, laidAfter}
 use Rattle.insertion.specs.Entry.{entryOf, Candidates}
 use Rattle.insertion.specs.EntryLaws.{entry-first, entry-second}
-use Rattle.sequence.specs.Keys.{keysOf}
-use Rattle.sequence.specs.KeysLaws.{keysOf-only}
+use Rattle.insertion.specs.Keys.{keysOf}
+use Rattle.insertion.specs.KeysLaws.{keysOf-only}
 
 module _ (tags : List ℕ) (before : List ℕ) (few : length tags ≤ groupMax) (size : length before ≡ 2 * groupMax) where
   -- As many cells as before, after any number of seeds.

@@ -10,7 +10,7 @@ ghost use Rattle.filling.specs.Least.{least};
 ghost use Rattle.filling.specs.Word.{wordOf};
 ghost use Rattle.insertion.specs.Entry.{Candidates};
 ghost use Rattle.sequence.specs.Answer.{choicesMeaning};
-ghost use Rattle.sequence.specs.Keys.{keysOf};
+ghost use Rattle.insertion.specs.Keys.{keysOf};
 
 // The choice word of the least sequence that fills, or that nothing does.
 pub enum Choices {

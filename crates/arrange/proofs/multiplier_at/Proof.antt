@@ -1,7 +1,7 @@
 -- `arrange::multiplier_at` meets its contract: the word's choice is 1, or it is 0. Assumes nothing.
 use borrow.Author.Needs.{needs}
 use mathlib.Core.Path.{sym, _∙_}
-use Rattle.insertion.specs.WordBitsLaws.{choiceNumber-one, choiceNumber-zero}
+use Rattle.bits.specs.WordBitsLaws.{choiceNumber-one, choiceNumber-zero}
 use Rattle.arrange.proofs.multiplier_at.Statement.{statement}
 use Rattle.arrange.proofs.multiplier_at.Tie as tie
 

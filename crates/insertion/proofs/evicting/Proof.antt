@@ -1,15 +1,14 @@
 -- `insertion::evicting` meets its contract: the two insertions give the lightest words with either choice of key k, and the
 -- lighter of them stays. Assumes nothing.
 use borrow.Author.Needs.{needs}
-use Rattle.insertion.specs.WordBitsLaws.{word-grown, set-grown}
-use Rattle.insertion.specs.InsertedLaws.{set-lightest, occupied-set, second-stays, first-stays, lighter-stays}
+use Rattle.insertion.specs.InsertedLaws.{first-ready, second-ready, second-stays, first-stays, lighter-stays}
 use Rattle.insertion.proofs.evicting.Statement.{statement}
 use Rattle.insertion.proofs.evicting.Tie as tie
 
 insert-requires : tie.Need-insert-requires
 insert-requires c κs =
     let pre = c .before .before .pre in
-    ((pre .0 .0, pre .0 .1, word-grown _ _ (pre .0 .2 .below)), (pre .0 .2 .lightest, pre .1))
+    first-ready _ _ _ (pre .0) (pre .1)
 
 enum-known-a : tie.Need-enum-known-a
 enum-known-a c = search needs
@@ -22,13 +21,8 @@ with-bit-requires c κs = search needs
 
 insert-requires-2 : tie.Need-insert-requires-2
 insert-requires-2 c κs =
-    let start = c .before .before .before .before .before .before in
-    let pre = start .pre in
-    let below = pre .0 .2 .below in
-    let light = pre .0 .2 .lightest in
-    let lit = set-lightest _ _ _ light in
-    let cells = occupied-set _ _ _ below light (pre .1) in
-    rw (c .with-bit .ensures) ((pre .0 .0, pre .0 .1, set-grown _ _ below), (lit, cells))
+    let pre = c .before .before .before .before .before .before .pre in
+    rw (c .with-bit .ensures) (second-ready _ _ _ (pre .0) (pre .1))
 
 returns : tie.Need-returns
 returns c =
@@ -37,21 +31,15 @@ returns c =
     let start = inserted .before .before .before in
     let first = rw (told .enum-told .given .1) at (inserted .insert .ensures) in
     let second = rw (c .before .with-bit .ensures) at (c .insert2 .ensures) in
-    let a = start .args in
-    second-stays (a .places .now) (a .k) (a .word) (start .pre .0 .2 .below) (c .insert2 .result) first second
+    second-stays _ _ _ (start .pre .0) (c .insert2 .result) first second
 
 with-bit-requires-2 : tie.Need-with-bit-requires-2
 with-bit-requires-2 c κs = search needs
 
 insert-requires-3 : tie.Need-insert-requires-3
 insert-requires-3 c κs =
-    let start = c .before .before .before .before .before .before .before in
-    let pre = start .pre in
-    let below = pre .0 .2 .below in
-    let light = pre .0 .2 .lightest in
-    let lit = set-lightest _ _ _ light in
-    let cells = occupied-set _ _ _ below light (pre .1) in
-    rw (c .with-bit2 .ensures) ((pre .0 .0, pre .0 .1, set-grown _ _ below), (lit, cells))
+    let pre = c .before .before .before .before .before .before .before .pre in
+    rw (c .with-bit2 .ensures) (second-ready _ _ _ (pre .0) (pre .1))
 
 enum-known-b : tie.Need-enum-known-b
 enum-known-b c = search needs
@@ -67,8 +55,7 @@ returns-2 c =
     let start = inserted .before .before .before in
     let first = rw (known .a .given .1) at (inserted .insert .ensures) in
     let second = rw (both .before .with-bit2 .ensures, c .enum-told2 .given .1) at (both .insert3 .ensures) in
-    let a = start .args in
-    first-stays (a .places .now) (a .k) (a .word) (start .pre .0 .2 .below) _ first second
+    first-stays _ _ _ (start .pre .0) _ first second
 
 add-lighter : tie.Need-add-lighter
 add-lighter c = search needs
@@ -85,8 +72,7 @@ returns-3 c =
     let start = inserted .before .before .before in
     let first = rw (known .a .given .1) at (inserted .insert .ensures) in
     let second = rw (both .before .with-bit2 .ensures, known2 .b .given .1) at (both .insert3 .ensures) in
-    let a = start .args in
-    rw (c .lighter .ensures) (lighter-stays (a .places .now) (a .k) (a .word) (start .pre .0 .2 .below) _ _ first second)
+    rw (c .lighter .ensures) (lighter-stays _ _ _ (start .pre .0) _ _ first second)
 
 pub evicting-spec : {M : Type 1} → statement M
 evicting-spec =

@@ -5,7 +5,7 @@ use mathlib.Core.Path.{sym, _∙_}
 use native.Mathlib.Omega.{arith}
 use borrow.Author.Needs.{needs}
 use Rattle.refusal.specs.Limits.{groupMax}
-use Rattle.insertion.specs.WordBits.{choiceIn}
+use Rattle.bits.specs.WordBits.{choiceIn}
 use Rattle.insertion.specs.EntryLaws.{candidates-fewer}
 use Rattle.insertion.specs.OccupantsLaws.{occupant-within}
 use Rattle.insertion.specs.InsertedLaws.{Inserting, inserting-start, inserting-within, inserting-done, inserting-returned, inserting-stuck, place-part, inserting-turn}

@@ -4,9 +4,9 @@ use mathlib.Core.Path.{_≡_, refl}
 use native.Mathlib.Omega.{arith}
 use borrow.Author.Needs.{needs}
 use Rattle.refusal.specs.Limits.{groupMax}
-use Rattle.insertion.specs.WordBits.{choiceIn}
+use Rattle.bits.specs.WordBits.{choiceIn}
 use Rattle.insertion.specs.Occupants.{Occupied}
-use Rattle.insertion.specs.OccupantsLaws.{Cleared, cleared-turn, occupied-none, separate-free, occupied-more}
+use Rattle.insertion.specs.OccupantsLaws.{Cleared, cleared-turn, occupied-none, separate-free, occupied-more, occupied-only}
 use Rattle.insertion.proofs.occupy.Statement.{statement}
 use Rattle.insertion.proofs.occupy.Tie as tie
 
@@ -88,7 +88,7 @@ returns : tie.Need-returns Inv-loop μ-loop Inv-loop2 μ-loop2
 returns c =
     let at = c .before .loop2 in
     let all : at .i ≡ c .before .before .before .before .before .args .count = omega arith in
-    rw all at (at .inv .1)
+    occupied-only _ (rw all at (at .inv .1))
 
 pub occupy-spec : {M : Type 1} → statement M
 occupy-spec =

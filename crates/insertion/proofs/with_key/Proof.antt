@@ -1,10 +1,13 @@
 -- `insertion::with_key` meets its contract: at a free first place no key moves, at a free second one key k weighs less than a move
 -- of a key before it, and otherwise both insertions are made. Assumes nothing.
+use Prim.Native.Nat.{_+_}
 use mathlib.Core.Path.{refl}
 use native.Mathlib.Omega.{arith}
 use borrow.Author.Needs.{needs}
 use Rattle.insertion.specs.EntryLaws.{entry-first, entry-second, first-below, second-below}
-use Rattle.insertion.specs.InsertedLaws.{first-free, second-free, first-occupied, second-occupied}
+use Rattle.insertion.specs.Occupants.{occupantsAfter}
+use Rattle.insertion.specs.LeastWordLaws.{word-lightest}
+use Rattle.insertion.specs.InsertedLaws.{cells-size, first-free, second-free, first-occupied, second-occupied}
 use Rattle.insertion.proofs.with_key.Statement.{statement}
 use Rattle.insertion.proofs.with_key.Tie as tie
 
@@ -43,15 +46,15 @@ element-write-occupants c =
     omega (arith, first-below (start .args .k) (start .pre .0 .1))
 
 returns : tie.Need-returns
+unfolding occupantsAfter
 returns c =
     let start = c .before .before .before .before in
     let pre = start .pre in
     let a = start .args in
     let free = rw (entry-first (a .places .now) (a .k)) at (c .if1 .taken) in
-    let light = pre .0 .2 in
     rw (entry-first (a .places .now) (a .k)) (
-      first-free _ _ _ (light .below) (light .lightest) (pre .1) free,
-      first-occupied _ _ _ (light .below) (light .lightest) (pre .1) (pre .0 .1) free,
+      first-free _ _ _ (pre .0) (pre .1) free,
+      first-occupied _ _ _ (pre .0) (pre .1) free,
     )
 
 add-second : tie.Need-add-second
@@ -95,6 +98,7 @@ with-bit-requires : tie.Need-with-bit-requires
 with-bit-requires c κs = search needs
 
 returns-2 : tie.Need-returns-2
+unfolding occupantsAfter
 returns-2 c =
     let second = c .before in
     let first = second .before .before .before in
@@ -103,10 +107,9 @@ returns-2 c =
     let a = start .args in
     let busy = rw (entry-first (a .places .now) (a .k)) at (first .if1 .left) in
     let free = rw (entry-second (a .places .now) (a .k)) at (second .if2 .taken) in
-    let light = pre .0 .2 in
     rw (c .with-bit .ensures, entry-second (a .places .now) (a .k)) (
-      second-free _ _ _ (light .below) (light .lightest) (pre .1) (omega arith) busy free,
-      second-occupied _ _ _ (light .below) (light .lightest) (pre .1) (pre .0 .1) free,
+      second-free _ _ _ (pre .0) (pre .1) free busy,
+      second-occupied _ _ _ (pre .0) (pre .1) free,
     )
 
 evicting-requires : tie.Need-evicting-requires
@@ -119,6 +122,7 @@ enum-told : tie.Need-enum-told
 enum-told c = search needs
 
 returns-3 : tie.Need-returns-3
+unfolding occupantsAfter
 returns-3 c = (rw (c .enum-told .given .1) at (c .before .before .evicting .ensures), refl)
 
 add-occupy : tie.Need-add-occupy
@@ -129,10 +133,14 @@ occupy-requires c κs =
     let known = c .before .before in
     let evicted = known .before .before in
     let start = evicted .before .before .before .before .before .before .before .before .before .before in
+    let pre = start .pre in
+    let a = start .args in
     let next = rw (known .next .given .1) at (evicted .evicting .ensures) in
-    ((omega arith, start .pre .0 .1, start .pre .1 .size), next .lightest .separate)
+    let light = word-lightest (a .places .now) (a .k + 1) _ (omega arith) next in
+    ((omega arith, pre .0 .1, cells-size _ _ _ (pre .0) (pre .1)), light .lightest .separate)
 
 returns-4 : tie.Need-returns-4
+unfolding occupantsAfter
 returns-4 c =
     let known = c .before .before .before in
     (rw (known .next .given .1) at (known .before .before .evicting .ensures), c .occupy .ensures)

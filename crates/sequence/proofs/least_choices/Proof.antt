@@ -1,27 +1,30 @@
--- `sequence::least_choices` meets its contract: the word is the lightest of the first k keys, the cells hold its occupants, and
--- the lightest of all is the least. Assumes nothing.
+-- `sequence::least_choices` meets its contract: the word is that of the least sequence of the first k keys, and the cells hold its
+-- occupants. Assumes nothing.
 use Prim.Native.Nat.{_-_, _≤_}
-use mathlib.Core.Path.{_≡_}
+use mathlib.Core.Path.{_≡_, refl}
+use mathlib.Core.Option.{some, Option·map}
 use native.Mathlib.Omega.{arith}
 use borrow.Author.Needs.{needs}
-use Rattle.filling.specs.InsertionLaws.{lightest-empty}
+use Rattle.filling.specs.Least.{leastFrom, least}
+use Rattle.filling.specs.Word.{wordOf}
 use Rattle.insertion.specs.EntryLaws.{candidates-fewer}
-use Rattle.insertion.specs.Occupants.{Occupied}
-use Rattle.insertion.specs.OccupantsLaws.{occupied-empty}
-use Rattle.insertion.specs.Inserted.{LightestWord}
-use Rattle.sequence.specs.LeastWordLaws.{lightest-word, nothing-word}
+use Rattle.insertion.specs.Keys.{keysOf}
+use Rattle.insertion.specs.LeastWordLaws.{nothing-more}
+use Rattle.insertion.specs.Occupants.{occupantsOf, occupantsAfter}
+use Rattle.insertion.specs.OccupantsLaws.{occupied-empty, occupied-only}
 use Rattle.sequence.proofs.least_choices.Statement.{statement}
 use Rattle.sequence.proofs.least_choices.Tie as tie
 
 abbrev Inv-loop : tie.InvT-loop
 Inv-loop places count occupants₀ word₀ k₀ occupants word k =
-    (k ≤ count) × LightestWord places k word × Occupied places word k occupants
+    (k ≤ count) × (some word ≡ Option·map wordOf (least (keysOf k places))) × (occupants ≡ occupantsOf places word k)
 
 abbrev μ-loop : tie.MeasureT-loop
 μ-loop places count occupants₀ word₀ k₀ occupants word k = count - k
 
 loop-holds : tie.Need-loop-holds Inv-loop μ-loop
-loop-holds c = (omega arith, record { below = omega arith; lightest = lightest-empty _ _ _ }, occupied-empty _ _)
+unfolding keysOf least leastFrom wordOf
+loop-holds c = (omega arith, refl, occupied-only _ (occupied-empty _ _))
 
 with-key-requires : tie.Need-with-key-requires Inv-loop μ-loop
 with-key-requires c κs =
@@ -43,7 +46,7 @@ returns c =
     let start = turn .before .before .before in
     let nothing = rw (c .enum-told .given .1) at (step .with-key .ensures .0) in
     let a = start .args in
-    cc (nothing-word (a .places .now) (a .count) (nothing (a .count) (turn .loop-test .taken)))
+    cc (nothing-more (a .places .now) _ (a .count) (omega arith) nothing)
 
 add-k : tie.Need-add-k Inv-loop μ-loop
 add-k c = search needs
@@ -52,6 +55,7 @@ loop-less : tie.Need-loop-less Inv-loop μ-loop
 loop-less c = search needs
 
 loop-again : tie.Need-loop-again Inv-loop μ-loop
+unfolding occupantsAfter
 loop-again c =
     let step = c .before .before .before in
     let next = rw (c .before .next .given .1) at (step .with-key .ensures .0) in
@@ -62,11 +66,8 @@ loop-again c =
 returns-2 : tie.Need-returns-2 Inv-loop μ-loop
 returns-2 c =
     let at = c .before .loop in
-    let start = c .before .before .before in
-    let all : at .k ≡ start .args .count = omega arith in
-    let a = start .args in
-    let light = rw all at (at .inv .1) in
-    cc (lightest-word (a .places .now) (a .count) (at .word) (omega arith) light)
+    let all : at .k ≡ c .before .before .before .args .count = omega arith in
+    rw all at (at .inv .1)
 
 pub least-choices-spec : {M : Type 1} → statement M
 least-choices-spec =

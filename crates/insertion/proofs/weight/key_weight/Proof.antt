@@ -1,6 +1,6 @@
 -- `insertion::weight::key_weight` meets its contract: 1 shifted by 31 - i is 2^(31 - i). Assumes nothing.
 use borrow.Author.Needs.{needs}
-use Rattle.insertion.specs.WordBitsLaws.{keyWeight-shifted}
+use Rattle.insertion.specs.WordWeightLaws.{keyWeight-shifted}
 use Rattle.insertion.proofs.weight.key_weight.Statement.{statement}
 use Rattle.insertion.proofs.weight.key_weight.Tie as tie
 

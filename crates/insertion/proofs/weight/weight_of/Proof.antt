@@ -6,8 +6,8 @@ use native.Mathlib.Omega.{arith}
 use borrow.Author.Needs.{needs}
 use Rattle.filling.specs.Weight.{keyWeight, total}
 use Rattle.filling.specs.WeightLaws.{total-first, total-second, weight-most, keyWeight-most}
-use Rattle.insertion.specs.WordBits.{choiceIn}
-use Rattle.insertion.specs.WordBitsLaws.{choiceNumber-one, choiceNumber-zero}
+use Rattle.bits.specs.WordBits.{choiceIn}
+use Rattle.bits.specs.WordBitsLaws.{choiceNumber-one, choiceNumber-zero}
 use Rattle.insertion.proofs.weight.weight_of.Statement.{statement}
 use Rattle.insertion.proofs.weight.weight_of.Tie as tie
 

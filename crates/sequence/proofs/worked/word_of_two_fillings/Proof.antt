@@ -14,7 +14,7 @@ use Rattle.filling.specs.Filling.{placeBy}
 use Rattle.filling.specs.Least.{beginning, leastFrom, least}
 use Rattle.filling.specs.Word.{choiceNumber, wordOf}
 use Rattle.insertion.specs.Entry.{entryOf, Candidates}
-use Rattle.sequence.specs.Keys.{keysOf}
+use Rattle.insertion.specs.Keys.{keysOf}
 use Rattle.sequence.proofs.worked.word_of_two_fillings.Statement.{statement}
 use Rattle.sequence.proofs.worked.word_of_two_fillings.Tie as tie
 

@@ -1,19 +1,19 @@
 -- The laws of a word's choices: how they are read, toggled and set, and that they are those of `choicesOf`. Assumes nothing.
-use Prim.Native.Nat.{ℕ, zero, suc, _+_, _*_, _-_, _/_, _%_, _^_, _≤_, _<_}
+use Prim.Native.Nat.{ℕ, zero, suc, _+_, _*_, _-_, _/_, _%_, _^_, _<_}
 use mathlib.Core.Path.{_≡_, refl, _∙_, ap}
 use mathlib.Core.Bool.{Bool, true, false, not}
-use native.Mathlib.Nat.{pow-suc, pow-succ', div-div-eq-div-mul, one-mul}
+use native.Mathlib.Nat.{pow-suc, pow-succ', div-div-eq-div-mul}
 use native.Mathlib.Numerals.{add-one}
 use native.Mathlib.Omega.{arith}
 use lib.Bits.{bitXor, xor-step, xor-zero-r, xor-lt, differ}
-use lib.Dec.{eqb, lit<}
-use lib.Pow.{pow-lt, shl-exact}
+use lib.Dec.{eqb}
+use lib.Pow.{pow-lt}
 use Rattle.bits.specs.Bit.{bitAt, setBit}
 use Rattle.bits.specs.BitLaws.{bit-below, bit-same, bit-other, setBit-below}
 use Rattle.filling.specs.Word.{choiceNumber, choicesOf}
-use Rattle.filling.specs.Weight.{keyWeight, byIndex}
+use Rattle.filling.specs.Weight.{byIndex}
 use Rattle.filling.specs.Insertion.{Toggled}
-use Rattle.insertion.specs.WordBits.{choiceIn, toggleBit}
+use Rattle.bits.specs.WordBits.{choiceIn, toggleBit}
 
 -- A bit is the lowest bit of the word shifted.
 bit-shifted : (w p : ℕ) → w / 2 ^ p % 2 ≡ bitAt w p
@@ -138,10 +138,3 @@ word-grown k w lt = rw (add-one k) (omega (arith, pow-suc 2 k))
 
 pub set-grown : (k w : ℕ) → w < 2 ^ k → setBit w k < 2 ^ (k + 1)
 set-grown k w lt = setBit-below (k + 1) w k (word-grown k w lt) (omega arith)
-
--- 1 shifted by 31 - i within 64 bits is the weight of key i.
-pub keyWeight-shifted : (i : ℕ) → 1 * 2 ^ (31 - i) % 2 ^ 64 ≡ keyWeight i
-unfolding keyWeight
-keyWeight-shifted i =
-    let room : 1 + (31 - i) ≤ 64 = omega arith in
-    shl-exact {a = 1} 1 (31 - i) 64 (lit< tt) room ∙ one-mul (2 ^ (31 - i))

@@ -9,9 +9,9 @@ use lib.ListN.{length, getD, length-append, List·getD-append}
 use lib.Seq.{ext-getD, getD-at}
 use Rattle.filling.specs.Filling.{Key, placeBy}
 use Rattle.filling.specs.LightestLaws.{placeIn}
 use Rattle.insertion.specs.Entry.{entryOf}
 use Rattle.insertion.specs.EntryLaws.{entry-first, entry-second}
-use Rattle.sequence.specs.Keys.{keyAt, keysOf}
+use Rattle.insertion.specs.Keys.{keyAt, keysOf}
 
 -- There are as many keys as are asked for.
 pub keysOf-length : (count : ℕ) (places : List ℕ) → length (keysOf count places) ≡ count
