@@ -178,7 +178,7 @@ module _ (places : List ℕ) where
         (only-lightest (entryOf places) keyWeight k true (choiceIn b) (light .lightest) (first-none first))
     second-stays Nothing first second =
         nothing-word places (k + 1)
-        (neither-separate (entryOf places) k (first-none first) (second-none second) (k + 1) (omega arith))
+        (rw (← add-one k) at (neither-separate (entryOf places) k (first-none first) (second-none second)))
 
     -- Where the first moved no key, its word stays: what is lighter would be lighter without key k.
     unmoved-stays : InsertedIs places k word (Word word) → WithKeyIs places k (Word word)
