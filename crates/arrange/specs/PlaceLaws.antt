@@ -18,10 +18,10 @@ use Rattle.filling.specs.WordLaws.{word-bit}
 use Rattle.filling.specs.LeastLaws.{feasible-fills}
 use Rattle.group.specs.Group.{bothPlaces, groupUnder, taken}
 use Rattle.group.specs.GroupLaws.{candidates-length, candidate-place, each-candidate, fills-length, taken-fills}
-use Rattle.bits.specs.WordBits.{choiceIn}
-use Rattle.bits.specs.WordBitsLaws.{choice-shifted}
 use Rattle.lists.specs.UpTo.{upTo}
 use Rattle.lists.specs.UpToLaws.{upTo-length, upTo-at}
+use Rattle.bits.specs.WordBits.{choiceIn}
+use Rattle.bits.specs.WordBitsLaws.{choice-shifted}
 use Rattle.building.specs.Number.{choiceOf, placeIn, tagNumbered}
 use Rattle.building.specs.NumberLaws.{ImageOf, place-apart, place-inside, tagNumbered-is}
 use Rattle.building.specs.GroupSlots.{groupSlots}
