@@ -399,11 +399,6 @@ module _ (place : ℕ → Bool → ℕ) where
               (g, lg, later g free moved, free, still g free ∙ same)
 
   module _ (weight : ℕ → ℕ) where
-    -- No key: every sequence is the lightest.
-    pub lightest-empty : (c : ℕ → Bool) → Lightest place weight 0 c
-    unfolding total
-    lightest-empty c = record { separate = λ i j li lj e. absurd (omega arith); lightest = λ f all. omega arith }
-
     -- Of the results of the two insertions, the lighter is the lightest sequence with the new key.
     pub lighter-lightest : (k : ℕ) (choice : Bool) (c d : ℕ → Bool) → LightestWith place weight k choice c
         → LightestWith place weight k (not choice) d → total weight c (suc k) ≤ total weight d (suc k)
@@ -429,17 +424,14 @@ module _ (place : ℕ → Bool → ℕ) where
         go f all (yes e) = one .lightest f all (sym e)
         go f all (no n) = absurd (none-other f all (sym (other-choice choice (f k) n)))
 
-  -- Where neither has one, nothing separates these keys, nor any more keys.
+  -- Where neither has one, nothing separates the keys.
   pub neither-separate : (k : ℕ) → NoneWith place k false → NoneWith place k true
-      → (n : ℕ) → k < n → (f : ℕ → Bool) → Separate place n f → ⊥
-  neither-separate k none-first none-second n lt f all = go (f k) refl
+      → (f : ℕ → Bool) → Separate place (suc k) f → ⊥
+  neither-separate k none-first none-second f all = go (f k) refl
     where
-      fewer : Separate place (suc k) f
-      fewer i j li lj e = all i j (omega arith) (omega arith) e
-
       go : (b : Bool) → f k ≡ b → ⊥
-      go false e = none-first f fewer e
-      go true e = none-second f fewer e
+      go false e = none-first f all e
+      go true e = none-second f all e
 
 -- Only the places and choices of the first n keys count.
 pub lightest-same : (place place′ : ℕ → Bool → ℕ) (weight : ℕ → ℕ) (n : ℕ) (c d : ℕ → Bool)

@@ -3,13 +3,16 @@ use Prim.Native.Nat.{ℕ, suc, _≤_, _<_}
 use mathlib.Core.Path.{_≡_, refl, sym, _∙_, ap}
 use mathlib.Core.Bool.{Bool, true, false}
 use mathlib.Core.List.{List}
-use mathlib.Core.Option.{Option, none, some}
+use mathlib.Core.Option.{some}
+use native.Mathlib.Decide.{decLt}
 use native.Mathlib.Omega.{arith}
 use lib.ListN.{length, getD}
+use Rattle.lists.specs.UpTo.{upTo}
+use Rattle.lists.specs.UpToLaws.{upTo-length, upTo-at}
 use Rattle.filling.specs.Filling.{Key, placeBy, Fills}
 use Rattle.filling.specs.FillingLaws.{apart-fills, fills-apart}
 use Rattle.filling.specs.Least.{least}
-use Rattle.filling.specs.LeastLaws.{least-only, least-fills}
+use Rattle.filling.specs.LeastLaws.{least-only, least-fills, least-least, notAfter-antisym}
 use Rattle.filling.specs.Weight.{keyWeight, choiceWeight, total, byIndex}
 use Rattle.filling.specs.WeightLaws.{total-same, weight-notAfter, weight-gap, weight-same}
 use Rattle.filling.specs.Insertion.{Separate, Lightest, LightestWith, Taken}
@@ -34,13 +37,41 @@ lightest-least keys cs l few light =
     lightest-fills keys cs few (apart-fills keys cs l (light .separate))
     (λ ds f. light .lightest (byIndex ds) (fills-apart keys ds f))
 
--- Where nothing separates the keys, there is no least sequence.
-pub none-least : (keys : List Key) → ((f : ℕ → Bool) → Separate (placeIn keys) (length keys) f → ⊥) → least keys ≡ none
-none-least keys nothing = go (least keys) refl
+-- Choices that separate the keys fill, as a sequence.
+pub separate-fills : (keys : List Key) (f : ℕ → Bool) → Separate (placeIn keys) (length keys) f → Fills keys (upTo (length keys) f)
+separate-fills keys f apart =
+    apart-fills keys (upTo (length keys) f) (upTo-length (length keys) f) (λ i j li lj e.
+    apart i j li lj (sym (at i li) ∙ e ∙ at j lj))
   where
-    go : (o : Option (List Bool)) → least keys ≡ o → o ≡ none
-    go none e = refl
-    go (some cs) e = absurd (nothing (byIndex cs) (fills-apart keys cs (least-fills keys e)))
+    at : (i : ℕ) → i < length keys → placeIn keys i (byIndex (upTo (length keys) f) i) ≡ placeIn keys i (f i)
+    at i lt = rw (upTo-at (length keys) f false i lt)
+
+-- The least sequence is the lightest: what separates the keys does not come before it, so it is not lighter.
+pub least-lightest : (keys : List Key) {cs : List Bool} → length keys ≤ 32 → least keys ≡ some cs
+    → Lightest (placeIn keys) keyWeight (length keys) (byIndex cs)
+least-lightest keys {cs} few e = record {
+  separate = fills-apart keys cs fills;
+  lightest = λ f apart. go f apart (decLt (total keyWeight f (length keys)) (total keyWeight (byIndex cs) (length keys)));
+}
+  where
+    fills : Fills keys cs
+    fills = least-fills keys e
+
+    go : (f : ℕ → Bool) → Separate (placeIn keys) (length keys) f
+        → Dec (total keyWeight f (length keys) < total keyWeight (byIndex cs) (length keys))
+        → total keyWeight (byIndex cs) (length keys) ≤ total keyWeight f (length keys)
+    go f apart (no n) = omega (arith, n)
+    go f apart (yes lt) =
+        let long : length (upTo (length keys) f) ≡ length keys = upTo-length (length keys) f in
+        let level =
+        total-same keyWeight keyWeight (byIndex (upTo (length keys) f)) f (length keys) (λ i lt. refl)
+        (upTo-at (length keys) f false) in
+        let before =
+        weight-notAfter (upTo (length keys) f) cs (long ∙ sym (fills .whole)) (omega (arith, long))
+        (rw (long, fills .whole) (omega (arith, level))) in
+        let after = least-least keys e (upTo (length keys) f) (separate-fills keys f apart) in
+        let same = notAfter-antisym cs (upTo (length keys) f) after before in
+        omega (arith, level, ap (λ (xs : List Bool). total keyWeight (byIndex xs) (length keys)) same)
 
 -- Where the first place of key k is taken and its second is free, the lightest choices of the keys before it and its second place
 -- are the lightest: with key k at its first place a key before it has another choice, and the choices of those keys then weigh more

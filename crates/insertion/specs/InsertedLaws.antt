@@ -17,13 +17,13 @@ use Rattle.filling.specs.Weight.{keyWeight, choiceWeight, total}
 use Rattle.filling.specs.Insertion.{Lightest, NoneWith, Occupies, Insertion, Walk}
 use Rattle.filling.specs.InsertionLaws.{insertion-start, insertion-turn, insertion-done, insertion-stuck, insertion-returned, walk-start, walk-free, walk-occupied, walk-returned, walk-turn, lighter-lightest, only-lightest, neither-separate, lightest-same}
 use Rattle.filling.specs.LightestLaws.{second-place-lightest}
+use Rattle.bits.specs.WordBits.{choiceIn, toggleBit}
+use Rattle.bits.specs.WordBitsLaws.{choiceNumber-same, toggle-below, toggle-toggled, choice-past, choice-set, choice-kept, word-grown, set-grown}
 use Rattle.insertion.specs.Entry.{entryOf, Candidates}
 use Rattle.insertion.specs.EntryLaws.{entry-other, entry-part, candidates-fewer}
 use Rattle.insertion.specs.Keys.{keysOf}
 use Rattle.insertion.specs.Answer.{insertedMeaning}
 use Rattle.insertion.specs.LeastWordLaws.{lightest-word, word-lightest, nothing-word}
-use Rattle.bits.specs.WordBits.{choiceIn, toggleBit}
-use Rattle.bits.specs.WordBitsLaws.{choiceNumber-same, toggle-below, toggle-toggled, choice-past, choice-set, choice-kept, word-grown, set-grown}
 use Rattle.insertion.specs.WordWeight.{wordWeight, lighterOf}
 use Rattle.insertion.specs.Occupants.{occupantsOf, Occupied}
 use Rattle.insertion.specs.OccupantsLaws.{occupied-same, free-untaken, cell-taken, occupied-more, occupied-only, occupied-of}
@@ -178,7 +178,7 @@ module _ (places : List ℕ) where
         (only-lightest (entryOf places) keyWeight k true (choiceIn b) (light .lightest) (first-none first))
     second-stays Nothing first second =
         nothing-word places (k + 1)
-        (neither-separate (entryOf places) k (first-none first) (second-none second) (k + 1) (omega arith))
+        (rw (← add-one k) at (neither-separate (entryOf places) k (first-none first) (second-none second)))
 
     -- Where the first moved no key, its word stays: what is lighter would be lighter without key k.
     unmoved-stays : InsertedIs places k word (Word word) → WithKeyIs places k (Word word)

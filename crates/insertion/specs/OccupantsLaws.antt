@@ -8,16 +8,17 @@ use mathlib.Core.Option.{Option, none, some}
 use native.Mathlib.Decide.{ℕ-discrete, decLt}
 use native.Mathlib.Omega.{arith}
 use lib.Dec.{eqb}
-use lib.ListN.{length, getD, set, replicate, length-set, length-replicate, getD-replicate, List·getD-eq-default}
+use lib.ListN.{length, getD, set, replicate, length-set, List·getD-eq-default}
 use lib.Seq.{ext-getD, getD-set-same, getD-set-other}
 use borrow.Author.Tests.{eqb-true, eq-eqb, ne-eqb}
 use Rattle.refusal.specs.Limits.{groupMax}
+use Rattle.lists.specs.First.{first}
 use Rattle.lists.specs.FirstLaws.{first-some, first-found, first-out}
 use Rattle.lists.specs.UpTo.{upTo}
 use Rattle.lists.specs.UpToLaws.{upTo-length, upTo-at}
 use Rattle.filling.specs.Insertion.{Separate, Taken}
-use Rattle.insertion.specs.Entry.{entryOf, Candidates}
 use Rattle.bits.specs.WordBits.{choiceIn}
+use Rattle.insertion.specs.Entry.{entryOf, Candidates}
 use Rattle.insertion.specs.Occupants.{cellOf, keyIn, occupantsOf, Occupied}
 
 -- The first v of the cells are 0.
@@ -50,12 +51,9 @@ module _ (places : List ℕ) where
           let past : length cells ≤ v = omega (arith, n, all .size) in
           omega (arith, List·getD-eq-default cells 0 past)
 
-  pub occupied-empty : (word : ℕ) → Occupied places word 0 (replicate groupMax 0)
-  occupied-empty word =
-      occupied-none word (record {
-        size = length-replicate {A = ℕ} groupMax 0;
-        clear = λ u lt. getD-replicate {A = ℕ} groupMax u 0 0 lt;
-      })
+  pub occupants-none : (word : ℕ) → replicate groupMax 0 ≡ occupantsOf places word 0
+  unfolding occupantsOf cellOf upTo first
+  occupants-none word = refl
 
   -- Only the choices of the keys count.
   pub occupied-same : (word other count : ℕ) {cells : List ℕ} → ((i : ℕ) → i < count → choiceIn word i ≡ choiceIn other i)

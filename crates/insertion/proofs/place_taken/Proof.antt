@@ -3,9 +3,9 @@
 use mathlib.Core.Path.{_≡_, sym, _∙_}
 use mathlib.Core.Bool.{true, false}
 use borrow.Author.Needs.{needs}
-use Rattle.insertion.specs.EntryLaws.{entry-first, entry-second}
 use Rattle.bits.specs.WordBits.{choiceIn}
 use Rattle.bits.specs.WordBitsLaws.{choiceNumber-one, choiceNumber-zero}
+use Rattle.insertion.specs.EntryLaws.{entry-first, entry-second}
 use Rattle.insertion.proofs.place_taken.Statement.{statement}
 use Rattle.insertion.proofs.place_taken.Tie as tie
 

@@ -11,7 +11,7 @@ use Rattle.insertion.specs.EntryLaws.{candidates-fewer}
 use Rattle.insertion.specs.Keys.{keysOf}
 use Rattle.insertion.specs.LeastWordLaws.{nothing-more}
 use Rattle.insertion.specs.Occupants.{occupantsOf, occupantsAfter}
-use Rattle.insertion.specs.OccupantsLaws.{occupied-empty, occupied-only}
+use Rattle.insertion.specs.OccupantsLaws.{occupants-none}
 use Rattle.sequence.proofs.least_choices.Statement.{statement}
 use Rattle.sequence.proofs.least_choices.Tie as tie
 
@@ -24,7 +24,7 @@ abbrev μ-loop : tie.MeasureT-loop
 
 loop-holds : tie.Need-loop-holds Inv-loop μ-loop
 unfolding keysOf least leastFrom wordOf
-loop-holds c = (omega arith, refl, occupied-only _ (occupied-empty _ _))
+loop-holds c = (omega arith, refl, occupants-none _ _)
 
 with-key-requires : tie.Need-with-key-requires Inv-loop μ-loop
 with-key-requires c κs =
