@@ -6,6 +6,7 @@ use mathlib.Core.Option.{none, some}
 use Prim.Native.Nat.{ℕ, _≤_, _<_}
 use native.Mathlib.Omega.{arith}
 use lib.ListN.{length, drop}
+use lib.Dec.{ltb}
 use borrow.Author.Tests.{lt-ltb, le-ltb, ltb-false, not-false}
 use Rattle.refusal.specs.Limits.{tagsMax, groupsMax, limitMax, outside}
 use Rattle.refusal.specs.LimitsLaws.{inside}
@@ -23,7 +24,8 @@ use Rattle.image.specs.SheetLaws.{bytes-length, image-longest}
 use Rattle.building.specs.Members.{members}
 use Rattle.building.specs.NumberLaws.{AllFill}
 use Rattle.building.specs.Admitted.{Admitted}
-use Rattle.building.specs.Building.{sheetOf, seedTaken, choicesTaken, imageOf, tooLarge, seedless, buildingChecks, buildingOf, written, bufferAfter}
+use Rattle.building.specs.Building.{sheetOf, seedTaken, choicesTaken, imageOf, tooLarge, seedless}
+use Rattle.building.specs.Building.{buildingChecks, buildingOf, written, bufferAfter}
 
 -- The image that building writes has the length that building answers.
 pub image-length : (groups : ℕ) (tags : List ℕ) (limit : ℕ) → length (imageOf groups tags limit) ≡ imageLength groups (length tags)
@@ -57,25 +59,30 @@ module _ (tags : List ℕ) (groups limit room : ℕ) where
               rw (some-groups, legal, le-ltb tagsMax (length tags) few, up, lt-ltb room (imageLength groups (length tags)) short)
 
 module _ {tags : List ℕ} {groups limit room : ℕ} (a : Admitted tags groups limit room) where
+  few : ltb tagsMax (length tags) ≡ false
+  few = le-ltb tagsMax (length tags) (a .count-legal)
+
+  fits : ltb room (imageLength groups (length tags)) ≡ false
+  fits = le-ltb room (imageLength groups (length tags)) (a .fits)
+
   pub building-large : {g : ℕ} → first (tooLarge groups tags) groups ≡ some g → buildingOf tags groups limit room ≡ refused 10 g
   unfolding buildingOf buildingChecks limitCheck ascendingCheck inOrder met metAt
-  building-large e =
-      rw (a .groups-legal, a .limit-legal, le-ltb tagsMax (length tags) (a .count-legal), a .ascending, le-ltb room (imageLength groups (length tags)) (a .fits), e)
+  building-large e = rw (a .groups-legal, a .limit-legal, few, a .ascending, fits, e)
 
   module _ (small : first (tooLarge groups tags) groups ≡ none) where
     pub building-seedless : {g : ℕ} → first (seedless groups tags limit) groups ≡ some g → buildingOf tags groups limit room ≡ refused 7 g
     unfolding buildingOf buildingChecks limitCheck ascendingCheck inOrder met metAt
-    building-seedless e =
-        rw (a .groups-legal, a .limit-legal, le-ltb tagsMax (length tags) (a .count-legal), a .ascending, le-ltb room (imageLength groups (length tags)) (a .fits), small, e)
+    building-seedless e = rw (a .groups-legal, a .limit-legal, few, a .ascending, fits, small, e)
 
-    pub building-answered : first (seedless groups tags limit) groups ≡ none → buildingOf tags groups limit room ≡ answered (imageLength groups (length tags))
+    pub building-answered : first (seedless groups tags limit) groups ≡ none
+        → buildingOf tags groups limit room ≡ answered (imageLength groups (length tags))
     unfolding buildingOf buildingChecks limitCheck ascendingCheck inOrder met metAt
-    building-answered e =
-        rw (a .groups-legal, a .limit-legal, le-ltb tagsMax (length tags) (a .count-legal), a .ascending, le-ltb room (imageLength groups (length tags)) (a .fits), small, e)
+    building-answered e = rw (a .groups-legal, a .limit-legal, few, a .ascending, fits, small, e)
 
 -- A refusal leaves the buffer as it was; otherwise the image stands at its beginning.
 module _ (tags : List ℕ) (groups limit : ℕ) (before : List ℕ) where
-  pub buffer-kept : {number place : ℕ} → buildingOf tags groups limit (length before) ≡ refused number place → bufferAfter tags groups limit before ≡ before
+  pub buffer-kept : {number place : ℕ} → buildingOf tags groups limit (length before) ≡ refused number place
+      → bufferAfter tags groups limit before ≡ before
   unfolding bufferAfter written
   buffer-kept e = rw e
 

@@ -33,7 +33,8 @@ use Rattle.building.specs.Members.{members}
 use Rattle.building.specs.MembersLaws.{start-all, start-before}
 use Rattle.building.specs.Number.{numberOf, tagNumbered}
 use Rattle.building.specs.NumberLaws.{number-below, number-apart, number-onto, AllFill, all-placed, tagNumbered-is}
-use Rattle.building.specs.Building.{sheetOf, seedTaken, choicesTaken, imageOf, tooLarge, seedless, buildingChecks, buildingOf, written, bufferAfter}
+use Rattle.building.specs.Building.{sheetOf, seedTaken, choicesTaken, imageOf, tooLarge, seedless}
+use Rattle.building.specs.Building.{buildingChecks, buildingOf, written, bufferAfter}
 use Rattle.building.specs.BuildingLaws.{image-length, seed-least, taken-fill}
 use Rattle.built.specs.BuiltLaws.{Reads, InRange, reads-back, built-sound, built-listed, built-unlisted}
 use Rattle.condition3.specs.Condition3.{NothingFills, HasSeed, LowestWithout, EarlierChecks, Accepted, Condition3}
@@ -54,17 +55,25 @@ module _ (tags : List ℕ) (groups limit : ℕ) where
         without = unseeded g (at .holds);
         lower = λ h lt.
             let has = seed-least groups tags limit h (at .lowest h lt) in
-            record { seed = seedTaken groups tags limit h; below = has .below; choices = choicesTaken groups tags limit h; fills = has .fills };
+            record {
+              seed = seedTaken groups tags limit h;
+              below = has .below;
+              choices = choicesTaken groups tags limit h;
+              fills = has .fills;
+            };
       }
 
   first-of-lowest : (g : ℕ) → LowestWithout groups tags limit g → first (seedless groups tags limit) groups ≡ some g
-  first-of-lowest g low = first-found (seedless groups tags limit) groups g (low .group) (here (seedless groups tags limit g) refl) (λ h lt. there h (low .lower h lt) (seedless groups tags limit h) refl)
+  first-of-lowest g low =
+      first-found (seedless groups tags limit) groups g (low .group) (here (seedless groups tags limit g) refl)
+      (λ h lt. there h (low .lower h lt) (seedless groups tags limit h) refl)
     where
       here : (b : Bool) → seedless groups tags limit g ≡ b → seedless groups tags limit g ≡ true
       here true e = e
       here false e =
           let has = seed-least groups tags limit g e in
-          absurd (low .without (seedTaken groups tags limit g) (has .below) (taken (members groups g tags) (seedTaken groups tags limit g)) (has .fills))
+          absurd (low .without (seedTaken groups tags limit g) (has .below)
+          (taken (members groups g tags) (seedTaken groups tags limit g)) (has .fills))
 
       there : (h : ℕ) → HasSeed groups tags limit h → (b : Bool) → seedless groups tags limit h ≡ b → seedless groups tags limit h ≡ false
       there h has true e = absurd (unseeded h e (has .seed) (has .below) (has .choices) (has .fills))
@@ -111,17 +120,20 @@ module _ (tags : List ℕ) (groups limit : ℕ) where
       limit-legal = inside 1 limitMax limit (false-of-met (outside 1 limitMax limit) four);
       count-legal = ltb-false tagsMax (length tags) (false-of-met (ltb tagsMax (length tags)) five);
       ascending = ascending-of-check tags order;
-      fits = ltb-false room (lineLength * (1 + groups + length tags)) (false-of-met (ltb room (lineLength * (1 + groups + length tags))) nine);
+      fits =
+          ltb-false room (lineLength * (1 + groups + length tags)) (false-of-met (ltb room (lineLength * (1 + groups + length tags))) nine);
       groups-small = λ g lt. ltb-false groupMax (length (members groups g tags)) (first-none (tooLarge groups tags) groups ten g lt);
     }
 
     -- Where they pass, 7 decides.
     seven-decides : EarlierChecks tags groups limit room
-        → buildingOf tags groups limit room ≡ inOrder ((7, first (seedless groups tags limit) groups) ∷ []) (answered (imageLength groups (length tags)))
+        → buildingOf tags groups limit room
+        ≡ inOrder ((7, first (seedless groups tags limit) groups) ∷ []) (answered (imageLength groups (length tags)))
     unfolding buildingOf buildingChecks
     seven-decides h = inOrder-append six ((7, first (seedless groups tags limit) groups) ∷ []) _ ∙ inOrder-pass six _ (pass-of-earlier h)
 
-    refused-of-lowest : EarlierChecks tags groups limit room → (g : ℕ) → LowestWithout groups tags limit g → buildingOf tags groups limit room ≡ refused 7 g
+    refused-of-lowest : EarlierChecks tags groups limit room → (g : ℕ)
+        → LowestWithout groups tags limit g → buildingOf tags groups limit room ≡ refused 7 g
     unfolding inOrder
     refused-of-lowest h g low = seven-decides h ∙ rw (first-of-lowest g low)
 
@@ -151,7 +163,8 @@ module _ (tags : List ℕ) (groups limit : ℕ) where
         go (inr (_, inr (_, inr (_, inr (_, inr (_, inr (_, inr (_, m)))))))) = absurd m
 
     -- An accepted building, from the earlier checks and a seed for every group.
-    module _ (words : (t : ℕ) → occurs t tags ≡ true → t < tagEnd) (h : EarlierChecks tags groups limit room) (every : first (seedless groups tags limit) groups ≡ none) where
+    module _ (words : (t : ℕ) → occurs t tags ≡ true → t < tagEnd) (h : EarlierChecks tags groups limit room)
+        (every : first (seedless groups tags limit) groups ≡ none) where
       takes : (g : ℕ) → g < groups → LeastSeed (members groups g tags) limit (seedTaken groups tags limit g)
       takes g lt = seed-least groups tags limit g (first-none (seedless groups tags limit) groups every g lt)
 
@@ -161,19 +174,21 @@ module _ (tags : List ℕ) (groups limit : ℕ) where
       all-fill : AllFill groups tags (seedTaken groups tags limit) (choicesTaken groups tags limit)
       all-fill = taken-fill groups tags limit (h .groups-legal .0) (check-of-ascending tags (h .ascending)) every
 
-      in-range : InRange (sheetOf groups tags (seedTaken groups tags limit) (choicesTaken groups tags limit))
+      in-range : InRange sheet
       unfolding sheetOf numberOf
       in-range = record {
         count = h .count-legal;
         groups = h .groups-legal;
-        start = λ g lt. omega (arith, h .count-legal, start-before groups g groups tags (omega arith), start-all groups tags (h .groups-legal .0));
+        start =
+            λ g lt. omega
+            (arith, h .count-legal, start-before groups g groups tags (omega arith), start-all groups tags (h .groups-legal .0));
         seed = λ g lt. omega (arith, (takes g lt) .below, h .limit-legal);
         slot = λ j lt.
             let f = numberOf groups tags (seedTaken groups tags limit) (choicesTaken groups tags limit) in
             words (tagNumbered f tags j) ((tagNumbered-is f tags j (number-onto (all-placed all-fill) j lt)) .0);
       }
 
-      reads : Reads (viewOf (imageOf groups tags limit)) (sheetOf groups tags (seedTaken groups tags limit) (choicesTaken groups tags limit))
+      reads : Reads (viewOf (imageOf groups tags limit)) sheet
       unfolding imageOf
       reads = reads-back sheet in-range
 
@@ -206,18 +221,21 @@ module _ (tags : List ℕ) (groups limit : ℕ) where
 pub built-checked : (tags : List ℕ) (groups limit room : ℕ) {size : ℕ} → ((t : ℕ) → occurs t tags ≡ true → t < tagEnd)
     → buildingOf tags groups limit room ≡ answered size → checkingOf (imageOf groups tags limit) ≡ answered 0
 unfolding buildingOf buildingChecks checkingOf
-built-checked tags groups limit room words e = go (inOrder-answered (buildingChecks tags groups limit room) (answered (imageLength groups (length tags))) e)
+built-checked tags groups limit room words e =
+    go (inOrder-answered (buildingChecks tags groups limit room) (answered (imageLength groups (length tags))) e)
   where
     go : {size : ℕ} → Pass (buildingChecks tags groups limit room) × (answered (imageLength groups (length tags)) ≡ answered size)
         → inOrder {A = ℕ} (checkingChecks (viewOf (imageOf groups tags limit))) (answered 0) ≡ answered 0
     go ((eight, (four, (five, (order, (nine, (ten, (seven, end))))))), answer) =
         let h = earlier-of-pass tags groups limit room (eight, (four, (five, (order, (nine, (ten, tt)))))) in
         let v = viewOf (imageOf groups tags limit) in
-        let sound = built-sound (reads tags groups limit room words h seven) (all-fill tags groups limit room words h seven) (h .groups-small) in
-        inOrder-pass (checkingChecks v) (answered 0) (pass-of-sound v sound)
+        let sees = reads tags groups limit room words h seven in
+        let fill = all-fill tags groups limit room words h seven in
+        inOrder-pass (checkingChecks v) (answered 0) (pass-of-sound v (built-sound sees fill (h .groups-small)))
 
 -- The buffer's first bytes after an accepted building are the image.
-pub image-written : (tags : List ℕ) (groups limit : ℕ) (before : List ℕ) (size : ℕ) → buildingOf tags groups limit (length before) ≡ answered size
+pub image-written : (tags : List ℕ) (groups limit : ℕ) (before : List ℕ) (size : ℕ)
+    → buildingOf tags groups limit (length before) ≡ answered size
     → imageLength groups (length tags) ≡ size → take size (bufferAfter tags groups limit before) ≡ imageOf groups tags limit
 unfolding bufferAfter written
 image-written tags groups limit before size e same =
@@ -229,7 +247,8 @@ pub condition3 : (tags : List ℕ) (groups limit : ℕ) (before : List ℕ) → 
     → Condition3 tags groups limit (length before) (buildingOf tags groups limit (length before)) (bufferAfter tags groups limit before)
 unfolding buildingOf buildingChecks imageLength
 condition3 tags groups limit before words = record {
-  accepted = λ size e. accept size e (inOrder-answered (buildingChecks tags groups limit room) (answered (imageLength groups (length tags))) e);
+  accepted =
+      λ size e. accept size e (inOrder-answered (buildingChecks tags groups limit room) (answered (imageLength groups (length tags))) e);
   no-seed = λ g e. (lowest-of-first tags groups limit g (first-of-seven tags groups limit room g e)) .without;
   refused-7 = λ h g. (
     λ e. lowest-of-first tags groups limit g (first-of-seven tags groups limit room g e),
@@ -247,24 +266,35 @@ condition3 tags groups limit before words = record {
     accept size e ((eight, (four, (five, (order, (nine, (ten, (seven, end))))))), answer) =
         let same : imageLength groups (length tags) ≡ size = cc in
         let h = earlier-of-pass tags groups limit room (eight, (four, (five, (order, (nine, (ten, tt)))))) in
-        accepted-as tags groups limit room words h seven size (bufferAfter tags groups limit before) (sym same) (image-written tags groups limit before size e same)
+        accepted-as tags groups limit room words h seven size (bufferAfter tags groups limit before)
+        (sym same) (image-written tags groups limit before size e same)
 
 -- Lookup in the image that building writes, under the seeds and sequences that it takes.
 pub looked-up : (tags : List ℕ) (groups limit room : ℕ) {size : ℕ} → ((t : ℕ) → occurs t tags ≡ true → t < tagEnd)
     → buildingOf tags groups limit room ≡ answered size → (t : ℕ) → lookupOf (imageOf groups tags limit) t
-    ≡ answered (cond (occurs t tags) (number (numberOf groups tags (seedTaken groups tags limit) (choicesTaken groups tags limit) t)) unknown)
+    ≡ answered
+    (cond (occurs t tags) (number (numberOf groups tags (seedTaken groups tags limit) (choicesTaken groups tags limit) t)) unknown)
 unfolding buildingOf buildingChecks lookupOf
-looked-up tags groups limit room words e t = go (inOrder-answered (buildingChecks tags groups limit room) (answered (imageLength groups (length tags))) e)
+looked-up tags groups limit room words e t =
+    go (inOrder-answered (buildingChecks tags groups limit room) (answered (imageLength groups (length tags))) e)
   where
     go : {size : ℕ} → Pass (buildingChecks tags groups limit room) × (answered (imageLength groups (length tags)) ≡ answered size)
         → lookupOf (imageOf groups tags limit) t
-        ≡ answered (cond (occurs t tags) (number (numberOf groups tags (seedTaken groups tags limit) (choicesTaken groups tags limit) t)) unknown)
+        ≡ answered
+        (cond (occurs t tags) (number (numberOf groups tags (seedTaken groups tags limit) (choicesTaken groups tags limit) t)) unknown)
     go ((eight, (four, (five, (order, (nine, (ten, (seven, end))))))), answer) = by (occurs t tags) refl
       where
         h : EarlierChecks tags groups limit room
         h = earlier-of-pass tags groups limit room (eight, (four, (five, (order, (nine, (ten, tt))))))
 
         by : (b : Bool) → occurs t tags ≡ b → lookupOf (imageOf groups tags limit) t
-            ≡ answered (cond (occurs t tags) (number (numberOf groups tags (seedTaken groups tags limit) (choicesTaken groups tags limit) t)) unknown)
-        by true m = rw m (built-listed (reads tags groups limit room words h seven) (all-fill tags groups limit room words h seven) (h .groups-small) t m)
-        by false m = rw m (built-unlisted (reads tags groups limit room words h seven) (all-fill tags groups limit room words h seven) (h .groups-small) t m)
+            ≡ answered
+            (cond (occurs t tags) (number (numberOf groups tags (seedTaken groups tags limit) (choicesTaken groups tags limit) t)) unknown)
+        by true m =
+            let sees = reads tags groups limit room words h seven in
+            let fill = all-fill tags groups limit room words h seven in
+            rw m (built-listed sees fill (h .groups-small) t m)
+        by false m =
+            let sees = reads tags groups limit room words h seven in
+            let fill = all-fill tags groups limit room words h seven in
+            rw m (built-unlisted sees fill (h .groups-small) t m)

@@ -18,12 +18,14 @@ use mathlib.Core.List.{List}
 use native.Mathlib.Nat.{eq-or-lt-of-le}
 use native.Mathlib.Omega.{arith}
 use lib.Dec.{eqb, ltb}
-use lib.ListN.{length, getD, set, take, replicate, length-set, length-map, length-replicate, getD-replicate, List·getD-map, List·getD-eq-default}
+use lib.ListN.{length, getD, set, take, replicate, length-set, length-map}
+use lib.ListN.{length-replicate, getD-replicate, List·getD-map, List·getD-eq-default}
 use lib.Seq.{getD-set-same, getD-set-other, set-out, getD-take, length-take-le}
 use borrow.Author.Tests.{eqb-true, eqb-false, eq-eqb, ltb-true, ltb-false}
 use Rattle.filling.specs.Filling.{Key, placeBy, Fills, EachCandidate}
 use Rattle.filling.specs.FillingLaws.{placeAt, fills-apart, apart-fills}
-use Rattle.filling.specs.Eviction.{State, allowance, placeUnder, goal, occupant, start, seatKey, evictKey, Reached, started, seats, evicts, GivesUp, sequenceOf}
+use Rattle.filling.specs.Eviction.{State, allowance, placeUnder, goal, occupant, start, seatKey, evictKey}
+use Rattle.filling.specs.Eviction.{Reached, started, seats, evicts, GivesUp, sequenceOf}
 
 -- Two numbers are equal or not.
 equal-or-not : (i j : ℕ) → (i ≡ j) ⊎ (i ≢ j)

@@ -10,7 +10,8 @@ use lib.Dec.{eqb}
 use borrow.Author.Tests.{eq-eqb, ne-eqb}
 use Rattle.filling.specs.Weight.{choiceWeight, total}
 use Rattle.filling.specs.WeightLaws.{total-same, total-count, total-less}
-use Rattle.filling.specs.Insertion.{distance, Toggled, Moved, Separate, SeparateBut, Lightest, LightestWith, NoneWith, Occupies, Unoccupied, Agreement, Insertion, Taken, Walk}
+use Rattle.filling.specs.Insertion.{distance, Toggled, Moved, Separate, SeparateBut, Lightest, LightestWith}
+use Rattle.filling.specs.Insertion.{NoneWith, Occupies, Unoccupied, Agreement, Insertion, Taken, Walk}
 
 -- A choice that is not another is that other, toggled.
 other-choice : (a b : Bool) → (a ≡ b → ⊥) → not a ≡ b

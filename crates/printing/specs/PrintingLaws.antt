@@ -17,7 +17,8 @@ use Rattle.list.specs.Reading.{Listed}
 use Rattle.image.specs.Sheet.{imageLength}
 use Rattle.image.specs.SheetLaws.{image-longest}
 use Rattle.building.specs.Building.{buildingChecks, buildingOf}
-use Rattle.building.specs.BuildingLaws.{image-length, building-groups, building-limit, building-many, buffer-kept, buffer-written, answered-size}
+use Rattle.building.specs.BuildingLaws.{image-length, building-groups, building-limit, building-many}
+use Rattle.building.specs.BuildingLaws.{buffer-kept, buffer-written, answered-size}
 use Rattle.building.specs.FromText.{listFromText, buildingFromText, bufferOfList, bufferFromText}
 use Rattle.printing.specs.Printing.{imageOfList, outputOf, printed, longestImage, printedCount, printedInto}
 
@@ -59,7 +60,10 @@ module _ (before : List ℕ) (enough : longestImage ≤ length before) where
       let groups = listed .groups in
       let limit = listed .limit in
       let same = sym (building-roomy tags groups limit (length before) enough) ∙ e in
-      rw same (image-length groups tags limit ∙ sym (answered-size tags groups limit (length before) e), buffer-written tags groups limit before e)
+      rw same (
+        image-length groups tags limit ∙ sym (answered-size tags groups limit (length before) e),
+        buffer-written tags groups limit before e,
+      )
   list-built (refused number place) e = absurd (let z : _≡_ {A = ℕ} 0 1 = cc in omega arith)
 
   -- or refuses.

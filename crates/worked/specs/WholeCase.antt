@@ -12,7 +12,8 @@ use Rattle.refusal.specs.Checks.{met, inOrder}
 use Rattle.hash.specs.Formula.{product, highPart, hashed, groupOf, multiplier, placeOf}
 use Rattle.text.specs.Figure.{leading, figure}
 use Rattle.text.specs.Field.{valueFrom, same, field}
-use Rattle.text.specs.Line.{lineAt, pairLine, tagLine, ended, bothFields, pairOf, tagOf, within, imageHeader, groupLine, slotLine, listHeader, listLine}
+use Rattle.text.specs.Line.{lineAt, pairLine, tagLine, ended, bothFields, pairOf, tagOf, within}
+use Rattle.text.specs.Line.{imageHeader, groupLine, slotLine, listHeader, listLine}
 use Rattle.lists.specs.Occurs.{occurs, distinct}
 use Rattle.filling.specs.Filling.{placeBy}
 use Rattle.filling.specs.Least.{beginning, leastFrom, least, feasible}
@@ -33,7 +34,15 @@ use Rattle.boundary.specs.Answer64.{answer64, foundNumber, buildAnswer, checkAn
 
 -- `unfolding computed` opens every definition that these compute through.
 computed : ℕ
-unfolding flatten orElse outside answeredBy followedBy first metAt isSome met inOrder product highPart hashed groupOf multiplier placeOf leading figure valueFrom same field lineAt pairLine tagLine ended bothFields pairOf tagOf within imageHeader groupLine slotLine listHeader listLine occurs distinct placeBy beginning leastFrom least feasible bothPlaces candidates leastSeed taken limitCheck notAbove ascendingCheck malformed lineCount tagCount tagsFrom listedIn readingChecks readingOf upTo linesOf bytesOf imageLength viewOf countIn groupsIn startIn seedIn slotLineIn slotIn endIn faulty candidateIn openingChecks malformedIn groupOfSlot misplaced repeated checkingChecks checkingOf groupChecks lookupChecks atSlot lookupInGroup lookupOf select members startOf choiceOf placeIn numberOf tagNumbered sheetOf seedTaken choicesTaken imageOf buildingChecks buildingOf listFromText buildingFromText imageOfList outputOf printed answer64 foundNumber buildAnswer checkAnswer lookupAnswer
+unfolding flatten orElse outside answeredBy followedBy first metAt isSome met inOrder product highPart hashed
+    groupOf multiplier placeOf leading figure valueFrom same field lineAt pairLine tagLine ended bothFields pairOf tagOf
+    within imageHeader groupLine slotLine listHeader listLine occurs distinct placeBy beginning leastFrom least feasible
+    bothPlaces candidates leastSeed taken limitCheck notAbove ascendingCheck malformed lineCount tagCount tagsFrom
+    listedIn readingChecks readingOf upTo linesOf bytesOf imageLength viewOf countIn groupsIn startIn seedIn slotLineIn
+    slotIn endIn faulty candidateIn openingChecks malformedIn groupOfSlot misplaced repeated checkingChecks checkingOf
+    groupChecks lookupChecks atSlot lookupInGroup lookupOf select members startOf choiceOf placeIn numberOf tagNumbered
+    sheetOf seedTaken choicesTaken imageOf buildingChecks buildingOf listFromText buildingFromText imageOfList outputOf
+    printed answer64 foundNumber buildAnswer checkAnswer lookupAnswer
 computed = 0
 
 -- "    2    9" and the tags 1, 2, 3, each in a line of its own.
@@ -71,7 +80,8 @@ pub whole-checked : checkAnswer output ≡ 0
 unfolding computed
 whole-checked = refl
 
-pub whole-looked : (lookupOf output 1 ≡ answered (number 1)) × (lookupOf output 2 ≡ answered (number 0)) × (lookupOf output 3 ≡ answered (number 2)) × (lookupAnswer output 4 ≡ 4294967295)
+pub whole-looked : (lookupOf output 1 ≡ answered (number 1)) × (lookupOf output 2 ≡ answered (number 0))
+    × (lookupOf output 3 ≡ answered (number 2)) × (lookupAnswer output 4 ≡ 4294967295)
 unfolding computed
 whole-looked = (refl, refl, refl, refl)
 

@@ -15,7 +15,8 @@ use Rattle.text.specs.TagLinesLaws.{stored-length, stored-tags}
 use Rattle.text.specs.Answer.{pairMeaning}
 use Rattle.list.specs.Reading.{lineCount, tagCount, tagsFrom, listedIn, readingOf, cellsAfter}
 use Rattle.list.specs.Answer.{ListHead, headOf}
-use Rattle.list.specs.ReadingLaws.{header-malformed, malformed-lines, tags-on, tagsFrom-length, head-is, read-short, read-uneven, read-header-malformed, read-malformed, read-many, read-narrow, read-answered}
+use Rattle.list.specs.ReadingLaws.{header-malformed, malformed-lines, tags-on, tagsFrom-length, head-is, read-short, read-uneven}
+use Rattle.list.specs.ReadingLaws.{read-header-malformed, read-malformed, read-many, read-narrow, read-answered}
 use Rattle.list.proofs.read_list.Statement.{statement}
 use Rattle.list.proofs.read_list.Tie as tie
 

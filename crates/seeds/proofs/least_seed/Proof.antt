@@ -8,7 +8,9 @@ use native.Mathlib.Omega.{arith}
 use lib.ListN.{length}
 use borrow.Author.Needs.{needs}
 use Rattle.seeds.specs.Tried.{tried}
-use Rattle.seeds.proofs.Turns.{Passed, passed-start, passed-more, passed-out, passed-found, laid-next, dropped, Turn, turn-start, turn-same, turn-all, turn-place, turn-other, turn-last, next-first, turn-first, turn-second, turn-evict, turn-spent}
+use Rattle.seeds.proofs.Turns.{Passed, passed-start, passed-more, passed-out, passed-found, laid-next, dropped}
+use Rattle.seeds.proofs.Turns.{Turn, turn-start, turn-same, turn-all, turn-place, turn-other, turn-last}
+use Rattle.seeds.proofs.Turns.{next-first, turn-first, turn-second, turn-evict, turn-spent}
 use Rattle.seeds.proofs.least_seed.Statement.{statement}
 use Rattle.seeds.proofs.least_seed.Tie as tie
 
@@ -233,8 +235,10 @@ returns-2 c =
     let at = c .before in
     let laid = at .before .before .before .before in
     let seeds = laid .before .before .before in
-    let (cs, fills) = turn-all (at .evict .inv) (c .if3 .taken ∙ seeds .before .size-of .ensures) in
-    (passed-found (omega arith) (seeds .seeds .inv) (omega arith) cs fills, laid-next (omega arith) (seeds .seeds .inv) (laid .lay-out .ensures .1))
+    let (cs, fills) = turn-all (at .evict .inv) (c .if3 .taken ∙ seeds .before .size-of .ensures) in (
+      passed-found (omega arith) (seeds .seeds .inv) (omega arith) cs fills,
+      laid-next (omega arith) (seeds .seeds .inv) (laid .lay-out .ensures .1),
+    )
 
 pub least-seed-spec : {M : Type 1} → statement M
 least-seed-spec =
