@@ -20,28 +20,16 @@ use Rattle.build.proofs.build_ordered.Reads as build-reads
 use Rattle.build.proofs.refuse.Reads as refuse-reads
 use Rattle.order.proofs.order_by_group.Reads as order-reads
 
+abbrev claims : lts.Claims
+claims =
+    (order-reads.Asked, order-reads.Learnt, refuse-reads.Asked, refuse-reads.Learnt, build-reads.Asked, build-reads.Learnt)
+
 -- Where the function begins, and where the tags are ordered.
 abbrev Entry : Type 0
-Entry =
-    lts.Start (
-      order-reads.Asked,
-      order-reads.Learnt,
-      refuse-reads.Asked,
-      refuse-reads.Learnt,
-      build-reads.Asked,
-      build-reads.Learnt,
-    ) reads.Pre reads.Post
+Entry = lts.Start claims reads.Pre reads.Post
 
 abbrev Ordered : Type 0
-Ordered =
-    lts.After-enum-told (
-      order-reads.Asked,
-      order-reads.Learnt,
-      refuse-reads.Asked,
-      refuse-reads.Learnt,
-      build-reads.Asked,
-      build-reads.Learnt,
-    ) reads.Pre reads.Post
+Ordered = lts.After-enum-told claims reads.Pre reads.Post
 
 abbrev entry : Ordered → Entry
 entry c = c .before .before .before .before .before .before .before
