@@ -75,8 +75,7 @@ returns-2 c =
     let g = read .before .group-of .result in
     let start = read .before .before .before in
     let a = start .args in
-    let own = line-reads pairMeaning groupLine (a .image .now) (1 + g)
-    (1 + g) (read .read-group-line .ensures) (told .start .given .1) refl in
+    let own = line-reads pairMeaning groupLine (a .image .now) _ (1 + g) (read .read-group-line .ensures) (told .start .given .1) refl in
     rw (← read .before .group-of .ensures)
     (c .malformed2 .ensures
     ∙ sym (next-malformed (a .image .now) (a .tag) g (1 + g) (omega arith) _ _ own
@@ -101,8 +100,7 @@ returns-3 c =
     let g = read .before .group-of .result in
     let start = read .before .before .before in
     let a = start .args in
-    let own = line-reads pairMeaning groupLine (a .image .now) (1 + g)
-    (1 + g) (read .read-group-line .ensures) (told .start .given .1) refl in
+    let own = line-reads pairMeaning groupLine (a .image .now) _ (1 + g) (read .read-group-line .ensures) (told .start .given .1) refl in
     let ends = sym (ended .group-end .ensures) ∙ ap endMeaning (told2 .end .given .1) in
     let fault = sym (judged .faulty .ensures) ∙ c .before .if1 .taken in
     rw (← read .before .group-of .ensures)
@@ -124,8 +122,7 @@ returns-4 c =
     let g = read .before .group-of .result in
     let start = read .before .before .before in
     let a = start .args in
-    let own = line-reads pairMeaning groupLine (a .image .now) (1 + g)
-    (1 + g) (read .read-group-line .ensures) (told .start .given .1) refl in
+    let own = line-reads pairMeaning groupLine (a .image .now) _ (1 + g) (read .read-group-line .ensures) (told .start .given .1) refl in
     let ends = sym (ended .group-end .ensures) ∙ ap endMeaning (told2 .end .given .1) in
     rw (← read .before .group-of .ensures)
     (c .faulty3 .ensures
@@ -142,8 +139,7 @@ in-slots-requires c κs =
     let g = read .before .group-of .result in
     let start = read .before .before .before in
     let a = start .args in
-    let own = line-reads pairMeaning groupLine (a .image .now) (1 + g)
-    (1 + g) (read .read-group-line .ensures) (told .start .given .1) refl in
+    let own = line-reads pairMeaning groupLine (a .image .now) _ (1 + g) (read .read-group-line .ensures) (told .start .given .1) refl in
     let ends = sym (ended .group-end .ensures) ∙ ap endMeaning (told2 .end .given .1) in
     let fair = fair-of-faulty g _ _ (sym (judged .faulty .ensures) ∙ c .before .if1 .left) in (
       start .pre .groups-is,
@@ -160,8 +156,7 @@ returns-5 c =
     let g = read .before .group-of .result in
     let start = read .before .before .before in
     let a = start .args in
-    let own = line-reads pairMeaning groupLine (a .image .now) (1 + g)
-    (1 + g) (read .read-group-line .ensures) (told .start .given .1) refl in
+    let own = line-reads pairMeaning groupLine (a .image .now) _ (1 + g) (read .read-group-line .ensures) (told .start .given .1) refl in
     let ends = sym (ended .group-end .ensures) ∙ ap endMeaning (told2 .end .given .1) in
     rw (← read .before .group-of .ensures)
     (c .in-slots .ensures
