@@ -27,7 +27,8 @@ pub enum BuildAnswer {
 pub fn build(tags: &[u32], groups: u32, limit: u32, buffer: &mut [u8]) -> BuildAnswer
     ensures answer { λ r. ⌜ buildOutcome r ≡ buildingOf (now (tags .entry)) groups limit (length (now (buffer .entry))) ⌝ }
     ensures bytes { λ r. ⌜ now (buffer .exit) ≡ bufferAfter (now (tags .entry)) groups limit (now (buffer .entry)) ⌝ }
-    ensures condition3 { λ r. ⌜ Condition3 (now (tags .entry)) groups limit (length (now (buffer .entry))) (buildOutcome r) (now (buffer .exit)) ⌝ }
+    ensures condition3 { λ r. ⌜ Condition3 (now (tags .entry)) groups limit (length (now (buffer .entry)))
+        (buildOutcome r) (now (buffer .exit)) ⌝ }
 {
     if refusal::outside(1, refusal::GROUPS_MAX, groups) {
         return refuse(Reason::GroupCountOutOfRange, 0);

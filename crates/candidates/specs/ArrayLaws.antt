@@ -73,7 +73,8 @@ module _ (keys : List Key) (before : List ℕ) (few : length keys ≤ groupMax) 
   unfolding laidInto
   laidInto-first i lt =
       let firsts = paste before 0 (placesBy false keys) (length keys) in
-      let inside = paste-inside before 0 (placesBy false keys) (length keys) i (omega arith) (omega (arith, placesBy-length false keys)) lt in
+      let inside =
+      paste-inside before 0 (placesBy false keys) (length keys) i (omega arith) (omega (arith, placesBy-length false keys)) lt in
       paste-before firsts groupMax (placesBy true keys) (length keys) i (omega (arith, firsts-length))
       (omega (arith, placesBy-length true keys)) (omega arith)
       ∙ (rw (zero-add i) at inside)

@@ -106,7 +106,8 @@ module _ (image : List ℕ) {count groups : ℕ} (opens : Opens image count grou
   -- Behind the group lines the first line that is no tag's is the first malformed one,
   pub slot-lines : first (malformedIn (viewOf image)) (1 + groups) ≡ none
       → first (noTagFrom (1 + groups) image) (1 + groups + count) ≡ first (malformedIn (viewOf image)) (1 + groups + count)
-  slot-lines before = first-cong (noTagFrom (1 + groups) image) (malformedIn (viewOf image)) (1 + groups + count) (λ k lt. line k (decLt k (1 + groups)))
+  slot-lines before =
+      first-cong (noTagFrom (1 + groups) image) (malformedIn (viewOf image)) (1 + groups + count) (λ k lt. line k (decLt k (1 + groups)))
     where
       line : (k : ℕ) → Dec (k < 1 + groups) → noTagFrom (1 + groups) image k ≡ malformedIn (viewOf image) k
       line k (yes lt) =
@@ -116,8 +117,10 @@ module _ (image : List ℕ) {count groups : ℕ} (opens : Opens image count grou
           ∙ sym (slot-line-tested k (omega (arith, ge)) (tagIn (lineAt k image)) (sym (tag-slot (lineAt k image))))
 
   -- and the tags of the lines before it are those of their slots.
-  pub slots-stored : (before : List ℕ) {o : Option ℕ} → length before ≡ tagsMax → o ≡ first (noTagFrom (1 + groups) image) (1 + groups + count)
-      → TagsStored (viewOf image) groups (linesBefore o (1 + groups + count)) (tagsStored (passed o (1 + groups) (1 + groups + count)) (1 + groups) image before)
+  pub slots-stored : (before : List ℕ) {o : Option ℕ} → length before ≡ tagsMax
+      → o ≡ first (noTagFrom (1 + groups) image) (1 + groups + count)
+      → TagsStored (viewOf image) groups (linesBefore o (1 + groups + count))
+      (tagsStored (passed o (1 + groups) (1 + groups + count)) (1 + groups) image before)
   unfolding slotIn slotLineIn viewOf
   slots-stored before {o} long found =
       let lines = linesBefore o (1 + groups + count) in
@@ -130,7 +133,8 @@ module _ (image : List ℕ) {count groups : ℕ} (opens : Opens image count grou
             ∙ rw (opens .groups-is, tag-slot (lineAt (1 + groups + j) image));
       }
     where
-      within : (o : Option ℕ) → o ≡ first (noTagFrom (1 + groups) image) (1 + groups + count) → linesBefore o (1 + groups + count) ≤ 1 + groups + count
+      within : (o : Option ℕ) → o ≡ first (noTagFrom (1 + groups) image) (1 + groups + count)
+          → linesBefore o (1 + groups + count) ≤ 1 + groups + count
       within none e = omega arith
       within (some k) e = omega (arith, (first-some (noTagFrom (1 + groups) image) (1 + groups + count) (sym e)) .below)
 

@@ -26,10 +26,16 @@ module _ (tags : List ℕ) (groups limit : ℕ) (before : List ℕ) (tag : ℕ) 
   written-within {size} is e =
       let image = imageOf groups tags limit in
       rw (is, buffer-written tags groups limit before e)
-      (omega (arith, answered-size tags groups limit (length before) e, image-length groups tags limit, length-append image (drop (length image) before)))
+      (omega (
+        arith,
+        answered-size tags groups limit (length before) e,
+        image-length groups tags limit,
+        length-append image (drop (length image) before),
+      ))
 
   -- Lookup in the first bytes of the buffer gives the claim.
-  pub claim-found : {size : ℕ} {after : List ℕ} → ((t : ℕ) → occurs t tags ≡ true → t < tagEnd) → after ≡ bufferAfter tags groups limit before
+  pub claim-found : {size : ℕ} {after : List ℕ} → ((t : ℕ) → occurs t tags ≡ true → t < tagEnd)
+      → after ≡ bufferAfter tags groups limit before
       → buildingOf tags groups limit (length before) ≡ answered size
       → lookupOf (take size after) tag ≡ claimOf tags groups limit (length before) tag
   unfolding claimOf followedBy foundIn

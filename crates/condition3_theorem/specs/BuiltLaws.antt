@@ -114,11 +114,13 @@ module _ {v : View} {groups : ℕ} {tags : List ℕ} {seed : ℕ → ℕ} {choic
   slot-of c t =
       let g = groupOf groups t in
       let lt = group-below groups t (fills .some-group) in
-      let size : startOf groups (suc g) tags - startOf groups g tags ≡ length (members groups g tags) = omega (arith, start-suc groups g tags) in
+      let size : startOf groups (suc g) tags - startOf groups g tags ≡ length (members groups g tags) =
+      omega (arith, start-suc groups g tags) in
       rw (end-is g lt, start-is g lt, seed-is g lt, size)
 
   -- A listed tag's number is one of its two slots, and lies in its group.
-  number-slot : (t : ℕ) → (numberOf groups tags seed choices t ≡ candidateIn v (groupOf groups t) 0 t) ⊎ (numberOf groups tags seed choices t ≡ candidateIn v (groupOf groups t) 1 t)
+  number-slot : (t : ℕ) → (numberOf groups tags seed choices t ≡ candidateIn v (groupOf groups t) 0 t)
+      ⊎ (numberOf groups tags seed choices t ≡ candidateIn v (groupOf groups t) 1 t)
   unfolding numberOf placeIn placeBy bothPlaces
   number-slot t = go (choiceOf (members groups (groupOf groups t) tags) (choices (groupOf groups t)) t) refl
     where
@@ -161,7 +163,8 @@ module _ {v : View} {groups : ℕ} {tags : List ℕ} {seed : ℕ → ℕ} {choic
       let t = tagAt j in
       let (listed, e) = slot-tag j below in
       let lies : LiesIn v j (groupOf groups t) = rw e at (number-lies t listed) in
-      let same : groupOf groups t ≡ groupOfSlot v j = lies-once v fair j (groupOf groups t) (groupOfSlot v j) lies (groupOfSlot-lies v fair j many lt) in
+      let same : groupOf groups t ≡ groupOfSlot v j =
+      lies-once v fair j (groupOf groups t) (groupOfSlot v j) lies (groupOfSlot-lies v fair j many lt) in
       own-placed v j t (slotIn-reads v j (slot-is j below)) (rw groups-is same) (rw (← same) (rw e at (number-slot t)))
 
   -- and in no two slots the same.
@@ -199,11 +202,13 @@ module _ {v : View} {groups : ℕ} {tags : List ℕ} {seed : ℕ → ℕ} {choic
   }
 
   -- Lookup answers the number of a listed tag,
-  pub built-listed : (t : ℕ) → occurs t tags ≡ true → lookupInGroup v t (ownGroup v t) ≡ answered (number (numberOf groups tags seed choices t))
+  pub built-listed : (t : ℕ) → occurs t tags ≡ true
+      → lookupInGroup v t (ownGroup v t) ≡ answered (number (numberOf groups tags seed choices t))
   unfolding numberOf
   built-listed t m = go (lookup-ends v built-sound many t)
     where
-      go : Looked v t (lookupInGroup v t (ownGroup v t)) → lookupInGroup v t (ownGroup v t) ≡ answered (number (numberOf groups tags seed choices t))
+      go : Looked v t (lookupInGroup v t (ownGroup v t))
+          → lookupInGroup v t (ownGroup v t) ≡ answered (number (numberOf groups tags seed choices t))
       go (found j holds e) =
           let below : j < length tags = rw count-is at (holds .slot) in
           let same : tagAt j ≡ t = (let a = slot-is j below in let b = holds .tag in cc) in

@@ -15,8 +15,7 @@ use Rattle.refusal.specs.Outcome.{answered, refused}
 use Rattle.lists.specs.First.{first, isSome}
 use Rattle.lists.specs.FirstLaws.{first-some, first-none, first-found, first-out, none-of-isSome}
 use Rattle.refusal.specs.Checks.{Check, met, inOrder, Pass}
-use Rattle.refusal.specs.ChecksLaws.{met-false, false-of-met, Met, passed, pass-more, pass-split, met-behind}
-use Rattle.refusal.specs.ChecksLaws.{inOrder-pass, inOrder-answered, inOrder-refused, inOrder-append}
+use Rattle.refusal.specs.ChecksLaws.{met-false, false-of-met, Met, passed, pass-more, pass-split, met-behind, inOrder-pass, inOrder-answered, inOrder-refused, inOrder-append}
 use Rattle.text.specs.Line.{lineLength}
 use Rattle.lists.specs.Occurs.{occurs}
 use Rattle.group.specs.Group.{leastSeed, taken}

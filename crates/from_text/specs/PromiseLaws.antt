@@ -74,7 +74,8 @@ read-into text room before {cells} {groups} {limit} {count} answer left whole =
     let filled : cells ≡ listed .tags ++ drop (length (listed .tags)) before = rw outcome at left in
     let tags : take count cells ≡ listed .tags = rw filled (take-at (listed .tags) _ count many) in
     record {
-      outcome = outcome ∙ ap answered (listed-of listed (ap (λ (h : ListHead). h .groups) same) (ap (λ (h : ListHead). h .limit) same) tags);
+      outcome =
+          outcome ∙ ap answered (listed-of listed (ap (λ (h : ListHead). h .groups) same) (ap (λ (h : ListHead). h .limit) same) tags);
       counted = sym (ap length tags ∙ many);
       long =
           omega (

@@ -18,7 +18,9 @@ use Rattle.group.specs.Placing.{placingChecks, placingOf}
 
 -- `unfolding computed` opens every definition that these compute through.
 computed : ℕ
-unfolding orElse outside first metAt isSome met inOrder product highPart hashed multiplier placeOf occurs placeBy beginning leastFrom least feasible bothPlaces candidates leastSeed limitCheck notAbove ascendingCheck placingChecks placingOf
+unfolding orElse outside first metAt isSome met inOrder product highPart hashed multiplier placeOf occurs placeBy
+    beginning leastFrom least feasible bothPlaces candidates leastSeed limitCheck notAbove ascendingCheck placingChecks
+    placingOf
 computed = 0
 
 -- One tag 25 times, which is too many tags, not ascending, and has no seed.

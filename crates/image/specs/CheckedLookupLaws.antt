@@ -46,7 +46,8 @@ sound-of-pass v (short, (header, (whole, (lines, (groups, (slots, (twins, end)))
       slot-lines = λ j lt.
           let past : groupsIn v ≤ groupsIn v + j = omega arith in
           let e : 1 + groupsIn v + j ≡ suc (groupsIn v + j) = omega arith in
-          rw e (not-false (isSome (v .slotAt (suc (groupsIn v + j)))) (rw (le-ltb (groupsIn v + j) (groupsIn v) past) at (well (suc (groupsIn v + j)) (omega arith))));
+          rw e (not-false (isSome (v .slotAt (suc (groupsIn v + j))))
+          (rw (le-ltb (groupsIn v + j) (groupsIn v) past) at (well (suc (groupsIn v + j)) (omega arith))));
       not-faulty = first-none (λ g. faulty g (startIn v g) (endIn v g)) (groupsIn v) groups;
       placed = first-none (misplaced v) (countIn v) slots;
       once = first-none (repeated v) (countIn v) twins;
@@ -105,10 +106,14 @@ pub placed-own : (v : View) (j t : ℕ) → slotIn v j ≡ t → misplaced v j �
 unfolding misplaced
 placed-own v j t e placed =
     let g = groupOfSlot v j in
-    let (group, spots) = neither-of-or (not (eqb (ownGroup v t) g)) (not (eqb j (candidateIn v g 0 t) || eqb j (candidateIn v g 1 t))) (rw e at placed) in
-    (eqb-true (ownGroup v t) g (not-false (eqb (ownGroup v t) g) group), go g (either-of-or (eqb j (candidateIn v g 0 t)) (eqb j (candidateIn v g 1 t)) (not-false (eqb j (candidateIn v g 0 t) || eqb j (candidateIn v g 1 t)) spots)))
+    let own = eqb (ownGroup v t) g in
+    let at₀ = eqb j (candidateIn v g 0 t) in
+    let at₁ = eqb j (candidateIn v g 1 t) in
+    let (group, spots) = neither-of-or (not own) (not (at₀ || at₁)) (rw e at placed) in
+    (eqb-true (ownGroup v t) g (not-false own group), go g (either-of-or at₀ at₁ (not-false (at₀ || at₁) spots)))
   where
-    go : (g : ℕ) → (eqb j (candidateIn v g 0 t) ≡ true) ⊎ (eqb j (candidateIn v g 1 t) ≡ true) → (j ≡ candidateIn v g 0 t) ⊎ (j ≡ candidateIn v g 1 t)
+    go : (g : ℕ) → (eqb j (candidateIn v g 0 t) ≡ true) ⊎ (eqb j (candidateIn v g 1 t) ≡ true)
+        → (j ≡ candidateIn v g 0 t) ⊎ (j ≡ candidateIn v g 1 t)
     go g (inl h) = inl (eqb-true j (candidateIn v g 0 t) h)
     go g (inr h) = inr (eqb-true j (candidateIn v g 1 t) h)
 
@@ -118,7 +123,8 @@ pub own-placed : (v : View) (j t : ℕ) → slotIn v j ≡ t → ownGroup v t �
 unfolding misplaced
 own-placed v j t e group spots = rw (e, eq-eqb (ownGroup v t) (groupOfSlot v j) group) (go (groupOfSlot v j) spots)
   where
-    go : (g : ℕ) → (j ≡ candidateIn v g 0 t) ⊎ (j ≡ candidateIn v g 1 t) → not (eqb j (candidateIn v g 0 t) || eqb j (candidateIn v g 1 t)) ≡ false
+    go : (g : ℕ) → (j ≡ candidateIn v g 0 t) ⊎ (j ≡ candidateIn v g 1 t)
+        → not (eqb j (candidateIn v g 0 t) || eqb j (candidateIn v g 1 t)) ≡ false
     go g (inl h) = rw (eq-eqb j (candidateIn v g 0 t) h)
     go g (inr h) = rw (eq-eqb j (candidateIn v g 1 t) h, or-true)
 
@@ -216,14 +222,17 @@ module _ (v : View) (sound : Sound v) (many : 0 < groupsIn v) where
             let filled = eqb-false (startIn v g) (endIn v g) e in
             let (u₀, reads₀) = slot-some (ownSlot v 0 t) (slot-inside 0 filled) in
             let (u₁, reads₁) = slot-some (ownSlot v 1 t) (slot-inside 1 filled) in
-            let ends : outcome ≡ cond (eqb u₀ t) (answered (number (ownSlot v 0 t))) (cond (eqb u₁ t) (answered (number (ownSlot v 1 t))) (answered unknown)) =
-            lookup-passes _ ∙ rw e (rw (slot-looked v t (ownSlot v 0 t) _ reads₀, slot-looked v t (ownSlot v 1 t) (answered unknown) reads₁)) in
+            let ends : outcome ≡ cond (eqb u₀ t) (answered (number (ownSlot v 0 t)))
+            (cond (eqb u₁ t) (answered (number (ownSlot v 1 t))) (answered unknown)) =
+            lookup-passes _
+            ∙ rw e (rw (slot-looked v t (ownSlot v 0 t) _ reads₀, slot-looked v t (ownSlot v 1 t) (answered unknown) reads₁)) in
             at-slots u₀ u₁ reads₀ reads₁ (slot-inside 0 filled) (slot-inside 1 filled) (eqb u₀ t) (eqb u₁ t) refl refl ends
           where
             at-slots : (u₀ u₁ : ℕ) → v .slotAt (slotLineIn v (ownSlot v 0 t)) ≡ some u₀ → v .slotAt (slotLineIn v (ownSlot v 1 t)) ≡ some u₁
                 → ownSlot v 0 t < countIn v → ownSlot v 1 t < countIn v
                 → (p q : Bool) → eqb u₀ t ≡ p → eqb u₁ t ≡ q
-                → outcome ≡ cond (eqb u₀ t) (answered (number (ownSlot v 0 t))) (cond (eqb u₁ t) (answered (number (ownSlot v 1 t))) (answered unknown))
+                → outcome ≡ cond (eqb u₀ t) (answered (number (ownSlot v 0 t)))
+                (cond (eqb u₁ t) (answered (number (ownSlot v 1 t))) (answered unknown))
                 → Looked v t outcome
             at-slots u₀ u₁ r₀ r₁ l₀ l₁ true q e f ends =
                 found (ownSlot v 0 t) (record { slot = l₀; tag = rw (eqb-true u₀ t e) at r₀ }) (ends ∙ rw e)

@@ -16,7 +16,10 @@ use Rattle.image.specs.Checking.{openingChecks, malformedIn, groupOfSlot
 
 -- `unfolding computed` opens every definition that these compute through.
 computed : ℕ
-unfolding flatten orElse first metAt isSome met inOrder product highPart hashed groupOf multiplier placeOf leading figure valueFrom same field lineAt pairLine tagLine ended bothFields pairOf tagOf within imageHeader groupLine slotLine imageLength viewOf countIn groupsIn startIn seedIn slotLineIn slotIn endIn faulty candidateIn openingChecks malformedIn groupOfSlot misplaced repeated checkingChecks checkingOf
+unfolding flatten orElse first metAt isSome met inOrder product highPart hashed groupOf multiplier placeOf leading
+    figure valueFrom same field lineAt pairLine tagLine ended bothFields pairOf tagOf within imageHeader groupLine
+    slotLine imageLength viewOf countIn groupsIn startIn seedIn slotLineIn slotIn endIn faulty candidateIn openingChecks
+    malformedIn groupOfSlot misplaced repeated checkingChecks checkingOf
 computed = 0
 
 -- One group of the tags 1 and 1 under seed 0, where both places of tag 1 are 1: slot 0 is misplaced, and slot 1 repeats its tag.

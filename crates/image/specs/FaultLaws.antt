@@ -123,7 +123,9 @@ module _ (v : View) (fair : AllFair v) where
     where
       go : (o : Option ℕ) → first (λ g. leb (startIn v g) j && ltb j (endIn v g)) (groupsIn v) ≡ o
           → (g : ℕ) → LiesIn v j g → LiesIn v j (Option·getD o 0)
-      go none e g lies = absurd (true≢false (sym (rw (le-leb (startIn v g) j (lies .from), lt-ltb j (endIn v g) (lies .below))) ∙ first-none (λ g. leb (startIn v g) j && ltb j (endIn v g)) (groupsIn v) e g (lies .group)))
+      go none e g lies =
+          absurd (true≢false (sym (rw (le-leb (startIn v g) j (lies .from), lt-ltb j (endIn v g) (lies .below)))
+          ∙ first-none (λ g. leb (startIn v g) j && ltb j (endIn v g)) (groupsIn v) e g (lies .group)))
       go (some h) e g lies =
           let at = first-some (λ g. leb (startIn v g) j && ltb j (endIn v g)) (groupsIn v) e in
           let (from, before) = both-of-and (leb (startIn v h) j) (ltb j (endIn v h)) (at .holds) in

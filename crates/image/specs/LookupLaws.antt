@@ -75,7 +75,9 @@ module _ (v w : View) (t : ℕ) (same-size : v .size ≡ w .size) (read : LinesR
       same-next : {A : Type 0} (f : Option (ℕ × ℕ) → A) (d : A)
           → cond (ltb (suc (ownGroup v t)) (groupsIn v)) (f (v .groupAt (suc (suc (ownGroup v t))))) d
           ≡ cond (ltb (suc (ownGroup w t)) (groupsIn w)) (f (w .groupAt (suc (suc (ownGroup w t))))) d
-      same-next f d = go (ltb (suc (ownGroup v t)) (groupsIn v)) refl ∙ ap (λ (b : ℕ). cond (ltb (suc (groupOf b t)) b) (f (w .groupAt (suc (suc (groupOf b t))))) d) same-groups
+      same-next f d =
+          go (ltb (suc (ownGroup v t)) (groupsIn v)) refl
+          ∙ ap (λ (b : ℕ). cond (ltb (suc (groupOf b t)) b) (f (w .groupAt (suc (suc (groupOf b t))))) d) same-groups
         where
           go : (b : Bool) → ltb (suc (ownGroup v t)) (groupsIn v) ≡ b
               → cond (ltb (suc (ownGroup v t)) (groupsIn v)) (f (v .groupAt (suc (suc (ownGroup v t))))) d
@@ -85,7 +87,9 @@ module _ (v w : View) (t : ℕ) (same-size : v .size ≡ w .size) (read : LinesR
 
       same-end : endIn v (ownGroup v t) ≡ endIn w (ownGroup w t)
       unfolding endIn startIn
-      same-end = ap (cond (ltb (suc (ownGroup v t)) (groupsIn v)) (startIn v (suc (ownGroup v t)))) same-count ∙ same-next (λ o. (Option·getD o (0, 0)) .0) (countIn w)
+      same-end =
+          ap (cond (ltb (suc (ownGroup v t)) (groupsIn v)) (startIn v (suc (ownGroup v t)))) same-count
+          ∙ same-next (λ o. (Option·getD o (0, 0)) .0) (countIn w)
 
       -- "then at the next group's line if there is one"
       same-malformed : (ltb (suc (ownGroup v t)) (groupsIn v) && not (isSome (v .groupAt (suc (suc (ownGroup v t))))))
@@ -148,8 +152,10 @@ module _ (v w : View) (t : ℕ) (same-size : v .size ≡ w .size) (read : LinesR
       ∙ sym (inOrder-append (openingChecks w) _ _)
     where
       behind : Pass (openingChecks v)
-          → inOrder (groupChecks v (ownGroup v t)) (cond (eqb (startIn v (ownGroup v t)) (endIn v (ownGroup v t))) (answered unknown) (slotsOf v))
-          ≡ inOrder (groupChecks w (ownGroup w t)) (cond (eqb (startIn w (ownGroup w t)) (endIn w (ownGroup w t))) (answered unknown) (slotsOf w))
+          → inOrder (groupChecks v (ownGroup v t))
+          (cond (eqb (startIn v (ownGroup v t)) (endIn v (ownGroup v t))) (answered unknown) (slotsOf v))
+          ≡ inOrder (groupChecks w (ownGroup w t))
+          (cond (eqb (startIn w (ownGroup w t)) (endIn w (ownGroup w t))) (answered unknown) (slotsOf w))
       behind opens = inOrder-agree (groupChecks v (ownGroup v t)) (groupChecks w (ownGroup w t)) _ _ (
         cc (same-own opens, same-groups),
         λ own.
@@ -157,7 +163,8 @@ module _ (v w : View) (t : ℕ) (same-size : v .size ≡ w .size) (read : LinesR
               cc (same-malformed opens well, same-groups),
               λ next. (
                 cc (same-start opens, same-end opens well, same-count, same-groups),
-                λ fault. slots-agree opens well (pass-append (openingChecks v) (groupChecks v (ownGroup v t)) opens (own, (next, (fault, tt)))),
+                λ fault. slots-agree opens well
+                    (pass-append (openingChecks v) (groupChecks v (ownGroup v t)) opens (own, (next, (fault, tt)))),
               ),
             ),
       )

@@ -101,7 +101,8 @@ pub record ReadAs (text : List ℕ) (cells : ℕ) (head : ListHead) : Type 0 whe
   pub count-is : head .count ≡ tagCount text
   pub room : tagCount text ≤ cells
 
-pub read-as : (text : List ℕ) (cells : ℕ) {head : ListHead} → answeredBy headOf (readingOf text cells) ≡ answered head → ReadAs text cells head
+pub read-as : (text : List ℕ) (cells : ℕ) {head : ListHead}
+    → answeredBy headOf (readingOf text cells) ≡ answered head → ReadAs text cells head
 unfolding readingOf readingChecks listedIn headOf
 read-as text cells {head} e =
     let (listed, outcome, same) = answered-of-by headOf (readingOf text cells) e in

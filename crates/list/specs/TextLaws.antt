@@ -33,9 +33,13 @@ unfolding tagsFrom
 tags-from [] text k reads = refl
 tags-from (t ∷ ts) text k reads =
     let here : k + 0 ≡ k = omega arith in
-    rw (rw here at (reads 0 (omega arith)), tags-from ts text (suc k) (λ i lt. let e : suc k + i ≡ k + suc i = omega arith in rw e (reads (suc i) (omega arith))))
+    rw (
+      rw here at (reads 0 (omega arith)),
+      tags-from ts text (suc k) (λ i lt. let e : suc k + i ≡ k + suc i = omega arith in rw e (reads (suc i) (omega arith))),
+    )
 
-module _ (b l : ℕ) (tags : List ℕ) (b-fits : b < 10 ^ 5) (l-fits : l < 10 ^ 5) (words : (i : ℕ) → i < length tags → getD tags i 0 < tagEnd) where
+module _ (b l : ℕ) (tags : List ℕ) (b-fits : b < 10 ^ 5) (l-fits : l < 10 ^ 5)
+    (words : (i : ℕ) → i < length tags → getD tags i 0 < tagEnd) where
   text-lines : Lines (pairLine b l ∷ map tagLine tags)
   unfolding Lines
   text-lines = (pairLine-length b l, tag-lines tags)
@@ -52,7 +56,11 @@ module _ (b l : ℕ) (tags : List ℕ) (b-fits : b < 10 ^ 5) (l-fits : l < 10 ^ 
   unfolding textOf
   tag-reads i lt =
       let e : 1 + i ≡ suc i = omega arith in
-      rw (e, line-flatten (pairLine b l ∷ map tagLine tags) (suc i) text-lines (omega (arith, length-map tags tagLine)), tag-line-at tags i lt) (list-line (getD tags i 0) (words i lt))
+      rw (
+        e,
+        line-flatten (pairLine b l ∷ map tagLine tags) (suc i) text-lines (omega (arith, length-map tags tagLine)),
+        tag-line-at tags i lt,
+      ) (list-line (getD tags i 0) (words i lt))
 
   text-well : (k : ℕ) → k < 1 + length tags → malformed (textOf b l tags) k ≡ false
   text-well zero lt = header-well (textOf b l tags) header-reads
@@ -70,5 +78,6 @@ module _ (b l : ℕ) (tags : List ℕ) (b-fits : b < 10 ^ 5) (l-fits : l < 10 ^ 
   unfolding listedIn lineCount
   read-back cells few room =
       let text = textOf b l tags in
-      read-answered text cells (omega (arith, text-length)) (omega (arith, text-length)) (first-out (malformed text) (lineCount text) (λ k lt. text-well k (omega (arith, text-length)))) (rw count-is few) (rw count-is room)
+      read-answered text cells (omega (arith, text-length)) (omega (arith, text-length))
+      (first-out (malformed text) (lineCount text) (λ k lt. text-well k (omega (arith, text-length)))) (rw count-is few) (rw count-is room)
       ∙ rw (header-reads, count-is, tags-from tags text 1 tag-reads)

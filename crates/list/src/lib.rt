@@ -20,7 +20,8 @@ pub enum ListAnswer {
 // The operation "reading a list". Every line is examined before a cell is written: the tags wait in cells of reading's own.
 pub fn read_list(text: &[u8], cells: &mut [u32]) -> ListAnswer
     ensures answer { λ r. ⌜ listOutcome r ≡ answeredBy headOf (readingOf (now (text .entry)) (length (now (cells .entry)))) ⌝ }
-    ensures cells { λ _. ⌜ now (cells .exit) ≡ cellsAfter (readingOf (now (text .entry)) (length (now (cells .entry)))) (now (cells .entry)) ⌝ }
+    ensures cells { λ _. ⌜ now (cells .exit)
+        ≡ cellsAfter (readingOf (now (text .entry)) (length (now (cells .entry)))) (now (cells .entry)) ⌝ }
 {
     if text.len() < 11 {
         return malformed(0);

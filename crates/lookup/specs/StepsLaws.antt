@@ -29,7 +29,8 @@ module _ (image : List ℕ) where
       let past : groupsIn v ≤ suc g = omega (arith, opens .groups-is) in
       rw (le-ltb (suc g) (groupsIn v) past, opens .count-is)
 
-  pub end-of-next : {count groups : ℕ} → Opens image count groups → (g : ℕ) → suc g < groups → (o : Option (ℕ × ℕ)) → groupLine (lineAt (suc (suc g)) image) ≡ o
+  pub end-of-next : {count groups : ℕ} → Opens image count groups → (g : ℕ)
+      → suc g < groups → (o : Option (ℕ × ℕ)) → groupLine (lineAt (suc (suc g)) image) ≡ o
       → endOf (viewOf image) g ≡ Option·map (λ h. h .0) o
   unfolding endOf viewOf
   end-of-next opens g lt o e =
@@ -132,7 +133,8 @@ module _ (image : List ℕ) where
 
             go : (b : Bool) (p : Option (ℕ × ℕ)) → ltb (suc g) (groupsIn v) ≡ b → v .groupAt (suc (suc g)) ≡ p → endIn v g ≡ end
             go true none f h = let z = rw (f, h) at ends in cc
-            go true (some p) f h = let z : some (p .0) ≡ some end = rw (f, h) at ends in rw f (ap (λ (o : Option (ℕ × ℕ)). (Option·getD o (0, 0)) .0) h ∙ cc)
+            go true (some p) f h =
+                let z : some (p .0) ≡ some end = rw (f, h) at ends in rw f (ap (λ (o : Option (ℕ × ℕ)). (Option·getD o (0, 0)) .0) h ∙ cc)
             go false p f h = let z : some (countIn v) ≡ some end = rw f at ends in rw f (cc)
 
         -- The group is faulty, ends past N, or its slots are looked at.
@@ -140,7 +142,8 @@ module _ (image : List ℕ) where
         unfolding groupOutcome groupChecks inOrder metAt isSome
         group-faulty e = rw (own-is, next-is (some end) ends, start-is, end-is, e)
 
-        pub group-slots : faulty g start end ≡ false → end ≤ countIn (viewOf image) → groupOutcome (viewOf image) t g ≡ slotsOf (viewOf image) start end seed t
+        pub group-slots : faulty g start end ≡ false → end ≤ countIn (viewOf image)
+            → groupOutcome (viewOf image) t g ≡ slotsOf (viewOf image) start end seed t
         unfolding groupOutcome groupChecks inOrder metAt isSome
         group-slots fair within =
             rw (own-is, next-is (some end) ends, start-is, end-is, seed-is, fair, le-ltb (countIn (viewOf image)) end within)

@@ -100,7 +100,8 @@ select-above test m [] all i lt = all i lt
 select-above test m (x ∷ xs) all i lt = go (test x) i lt (select-above test m xs (λ j l. all (suc j) (omega arith)))
   where
     go : (b : Bool) (i : ℕ) → i < length (cond b (x ∷ select test xs) (select test xs))
-        → ((j : ℕ) → j < length (select test xs) → m < getD (select test xs) j 0) → m < getD (cond b (x ∷ select test xs) (select test xs)) i 0
+        → ((j : ℕ) → j < length (select test xs) → m < getD (select test xs) j 0)
+        → m < getD (cond b (x ∷ select test xs) (select test xs)) i 0
     go true zero lt rest = all 0 (omega arith)
     go true (suc i) lt rest = rest i (omega arith)
     go false i lt rest = rest i lt
@@ -121,9 +122,11 @@ select-ascending test (x ∷ xs) up = go (test x) (select-ascending test xs (λ 
 -- A listed tag is a member of its group, and a member is a listed tag of the group.
 pub members-own : (groups : ℕ) (tags : List ℕ) (t : ℕ) → occurs t tags ≡ true → occurs t (members groups (groupOf groups t) tags) ≡ true
 unfolding members
-members-own groups tags t m = select-occurs (λ u. eqb (groupOf groups u) (groupOf groups t)) tags t m (eq-eqb (groupOf groups t) (groupOf groups t) refl)
+members-own groups tags t m =
+    select-occurs (λ u. eqb (groupOf groups u) (groupOf groups t)) tags t m (eq-eqb (groupOf groups t) (groupOf groups t) refl)
 
-pub member-group : (groups g : ℕ) (tags : List ℕ) (t : ℕ) → occurs t (members groups g tags) ≡ true → (occurs t tags ≡ true) × (groupOf groups t ≡ g)
+pub member-group : (groups g : ℕ) (tags : List ℕ) (t : ℕ)
+    → occurs t (members groups g tags) ≡ true → (occurs t tags ≡ true) × (groupOf groups t ≡ g)
 unfolding members
 member-group groups g tags t m =
     let (listed, e) = occurs-select (λ u. eqb (groupOf groups u) g) tags t m in
@@ -144,7 +147,8 @@ start-zero groups tags = rw (select-none (λ t. ltb (groupOf groups t) 0) tags (
 
 pub start-all : (groups : ℕ) (tags : List ℕ) → 0 < groups → startOf groups groups tags ≡ length tags
 unfolding startOf
-start-all groups tags many = rw (select-all (λ t. ltb (groupOf groups t) groups) tags (λ t. lt-ltb (groupOf groups t) groups (group-below groups t many)))
+start-all groups tags many =
+    rw (select-all (λ t. ltb (groupOf groups t) groups) tags (λ t. lt-ltb (groupOf groups t) groups (group-below groups t many)))
 
 pub start-suc : (groups g : ℕ) (tags : List ℕ) → startOf groups (suc g) tags ≡ startOf groups g tags + length (members groups g tags)
 unfolding startOf members select

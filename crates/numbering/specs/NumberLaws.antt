@@ -49,7 +49,8 @@ map-distinct : (f : ℕ → ℕ) (xs : List ℕ) → distinct xs ≡ true
     → ((x y : ℕ) → occurs x xs ≡ true → occurs y xs ≡ true → f x ≡ f y → x ≡ y) → distinct (map f xs) ≡ true
 map-distinct f [] d apart = d
 map-distinct f (x ∷ xs) d apart =
-    distinct-cons (f x) (map f xs) (not-eq-not .0 again) (map-distinct f xs (distinct-tail x xs d) (λ y z m n e. apart y z (occurs-there y x xs m) (occurs-there z x xs n) e))
+    distinct-cons (f x) (map f xs) (not-eq-not .0 again)
+    (map-distinct f xs (distinct-tail x xs d) (λ y z m n e. apart y z (occurs-there y x xs m) (occurs-there z x xs n) e))
   where
     again : occurs (f x) (map f xs) ≡ true → ⊥
     again m =
@@ -61,7 +62,8 @@ distinct-map : (f : ℕ → ℕ) (xs : List ℕ) → distinct (map f xs) ≡ tru
     → (x y : ℕ) → occurs x xs ≡ true → occurs y xs ≡ true → f x ≡ f y → x ≡ y
 unfolding occurs
 distinct-map f [] d x y m n e = cc
-distinct-map f (z ∷ zs) d x y m n e = go (occurs-cases x z zs m) (occurs-cases y z zs n) (λ p q. distinct-map f zs (distinct-tail (f z) (map f zs) d) x y p q e)
+distinct-map f (z ∷ zs) d x y m n e =
+    go (occurs-cases x z zs m) (occurs-cases y z zs n) (λ p q. distinct-map f zs (distinct-tail (f z) (map f zs) d) x y p q e)
   where
     off : (u : ℕ) → occurs u zs ≡ true → f u ≡ f z → ⊥
     off u m e = occurs-not (f z) (map f zs) (rw e at (map-occurs f zs u m)) (distinct-head (f z) (map f zs) d)
@@ -89,7 +91,8 @@ module _ {groups : ℕ} {tags : List ℕ} {place : ℕ → ℕ} (p : Placed grou
   number-ends t m = omega (arith, p .inside t m, start-suc groups (groupOf groups t) tags)
 
   -- Numbers of lower groups are lower.
-  number-before : (t u : ℕ) → occurs t tags ≡ true → groupOf groups t < groupOf groups u → numbered groups tags place t < numbered groups tags place u
+  number-before : (t u : ℕ) → occurs t tags ≡ true → groupOf groups t < groupOf groups u
+      → numbered groups tags place t < numbered groups tags place u
   number-before t u m lt =
       omega (arith, number-ends t m, start-before groups (suc (groupOf groups t)) (groupOf groups u) tags lt)
 
@@ -104,7 +107,8 @@ module _ {groups : ℕ} {tags : List ℕ} {place : ℕ → ℕ} (p : Placed grou
       )
 
   -- no two tags have one number,
-  pub number-apart : (t u : ℕ) → occurs t tags ≡ true → occurs u tags ≡ true → numbered groups tags place t ≡ numbered groups tags place u → t ≡ u
+  pub number-apart : (t u : ℕ) → occurs t tags ≡ true → occurs u tags ≡ true
+      → numbered groups tags place t ≡ numbered groups tags place u → t ≡ u
   number-apart t u m n e = go (ltb (groupOf groups t) (groupOf groups u)) (ltb (groupOf groups u) (groupOf groups t)) refl refl
     where
       go : (a b : Bool) → ltb (groupOf groups t) (groupOf groups u) ≡ a → ltb (groupOf groups u) (groupOf groups t) ≡ b → t ≡ u
@@ -139,7 +143,8 @@ chosen-tags both [] choices d l = refl
 chosen-tags both (u ∷ us) [] d l = absurd (omega arith)
 chosen-tags both (u ∷ us) (c ∷ cs) d l =
     rw (eq-eqb u u refl, chosen-tags both us cs (distinct-tail u us d) (omega arith))
-    (ap (λ (xs : List ℕ). placeBy c (both u) ∷ xs) (map-agree (λ t. placeBy (choiceOf us cs t) (both t)) (λ t. placeBy (choiceOf (u ∷ us) (c ∷ cs) t) (both t)) us rest))
+    (ap (λ (xs : List ℕ). placeBy c (both u) ∷ xs)
+    (map-agree (λ t. placeBy (choiceOf us cs t) (both t)) (λ t. placeBy (choiceOf (u ∷ us) (c ∷ cs) t) (both t)) us rest))
   where
     rest : (t : ℕ) → occurs t us ≡ true → placeBy (choiceOf us cs t) (both t) ≡ placeBy (choiceOf (u ∷ us) (c ∷ cs) t) (both t)
     rest t m =
@@ -193,7 +198,8 @@ all-placed {groups} {tags} {seed} {choices} a = record {
   apart = λ t u m n same e.
       let g = groupOf groups t in
       let own = members groups g tags in
-      place-apart own (seed g) (choices g) (members-distinct groups g tags (a .differ)) (a .fills g (group-below groups t (a .some-group))) t u
+      place-apart own (seed g) (choices g) (members-distinct groups g tags (a .differ))
+      (a .fills g (group-below groups t (a .some-group))) t u
       (members-own groups tags t m)
       (rw same (members-own groups tags u n))
       (e ∙ rw same);
@@ -204,7 +210,9 @@ pub tagNumbered-is : (number : ℕ → ℕ) (tags : List ℕ) (j : ℕ) → Imag
     → (occurs (tagNumbered number tags j) tags ≡ true) × (number (tagNumbered number tags j) ≡ j)
 unfolding tagNumbered occurs
 tagNumbered-is number [] j r = (r .listed, cc (r .listed))
-tagNumbered-is number (t ∷ ts) j r = go (eqb (number t) j) refl (occurs-cases (r .from) t ts (r .listed)) (λ m. tagNumbered-is number ts j record { from = r .from; listed = m; value = r .value })
+tagNumbered-is number (t ∷ ts) j r =
+    go (eqb (number t) j) refl (occurs-cases (r .from) t ts (r .listed))
+    (λ m. tagNumbered-is number ts j record { from = r .from; listed = m; value = r .value })
   where
     go : (b : Bool) → eqb (number t) j ≡ b → (r .from ≡ t) ⊎ (occurs (r .from) ts ≡ true)
         → (occurs (r .from) ts ≡ true → (occurs (tagNumbered number ts j) ts ≡ true) × (number (tagNumbered number ts j) ≡ j))

@@ -29,7 +29,8 @@ flatten-at (suc count) f (suc k) p lt inside =
     let rest = flatten (upTo k (λ h. f (suc h))) in
     let place : length (f 0 ++ rest) + p ≡ length (f 0) + (length rest + p) = omega (arith, length-append (f 0) rest) in
     rw place
-    (getD-append-add (f 0) (flatten (upTo count (λ h. f (suc h)))) (length rest + p) 0 ∙ flatten-at count (λ h. f (suc h)) k p (omega arith) inside)
+    (getD-append-add (f 0) (flatten (upTo count (λ h. f (suc h)))) (length rest + p) 0
+    ∙ flatten-at count (λ h. f (suc h)) k p (omega arith) inside)
 
 -- A group has as many slots as tags, and a slot has the tag whose place it is.
 pub slots-length : (tags : List ℕ) (seed : ℕ) (choices : List Bool) → length (groupSlots tags seed choices) ≡ length tags
@@ -68,10 +69,12 @@ module _ {groups : ℕ} {tags : List ℕ} {seed : ℕ → ℕ} {choices : ℕ �
       rw (← slots-start g)
       (flatten-at groups slotsOf g (place t) below (rw (slots-length own (seed g) (choices g)) inside)
       ∙ slot-is own (seed g) (choices g) (place t) inside
-      ∙ place-apart own (seed g) (choices g) (members-distinct groups g tags (a .differ)) (a .fills g below) (tagNumbered place own (place t)) t (found .0) listed (found .1))
+      ∙ place-apart own (seed g) (choices g) (members-distinct groups g tags (a .differ))
+      (a .fills g below) (tagNumbered place own (place t)) t (found .0) listed (found .1))
 
   -- "Line 1 + B + j: … the tag whose number is j."
-  pub slots-numbered : (j : ℕ) → j < length tags → getD (flatten (upTo groups slotsOf)) j 0 ≡ tagNumbered (numberOf groups tags seed choices) tags j
+  pub slots-numbered : (j : ℕ) → j < length tags
+      → getD (flatten (upTo groups slotsOf)) j 0 ≡ tagNumbered (numberOf groups tags seed choices) tags j
   unfolding numberOf
   slots-numbered j lt =
       let number = numberOf groups tags seed choices in

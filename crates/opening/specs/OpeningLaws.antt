@@ -43,7 +43,8 @@ opening-answered image {count} {groups} e =
     let n-is : n ≡ count = sym (counts .0) ∙ ap (λ (c : ℕ × ℕ). c .0) same in
     let b-is : b ≡ groups = sym (counts .1) ∙ ap (λ (c : ℕ × ℕ). c .1) same in
     let total = lineLength * (1 + groupsIn v + countIn v) in
-    let long : length image ≡ total = eqb-true (length image) total (not-false (eqb (length image) total) (false-of-met (not (eqb (length image) total)) whole)) in
+    let long : length image ≡ total =
+    eqb-true (length image) total (not-false (eqb (length image) total) (false-of-met (not (eqb (length image) total)) whole)) in
     record {
       size = long ∙ cc (counts .0, counts .1, n-is, b-is);
       count-is = counts .0 ∙ n-is;

@@ -32,7 +32,9 @@ module _ (part : List ℕ) (limit : ℕ) (legal : (1 ≤ limit) × (limit ≤ li
     where
       go : (o : Option ℕ) → leastSeed part limit ≡ o
           → (leastSeed part limit ≡ some (placement .seed)) × (placementOf part limit ≡ placement)
-      go none f = absurd (let r = placing-unseeded part limit legal-limit few (check-of-ascending part up) f in let z : _≡_ {A = ℕ} 0 1 = cc in omega arith)
+      go none f =
+          let r = placing-unseeded part limit legal-limit few (check-of-ascending part up) f in
+          absurd (let z : _≡_ {A = ℕ} 0 1 = cc in omega arith)
       go (some s) f =
           let r = placing-seeded part limit legal-limit few (check-of-ascending part up) f in
           let same = sym r ∙ e in
@@ -44,7 +46,8 @@ module _ (part : List ℕ) (limit : ℕ) (legal : (1 ≤ limit) × (limit ≤ li
       go : (o : Option ℕ) → leastSeed part limit ≡ o → o ≡ none
       go none f = refl
       go (some s) f =
-          absurd (let r = placing-seeded part limit legal-limit few (check-of-ascending part up) f in let z : _≡_ {A = ℕ} 0 1 = cc in omega arith)
+          let r = placing-seeded part limit legal-limit few (check-of-ascending part up) f in
+          absurd (let z : _≡_ {A = ℕ} 0 1 = cc in omega arith)
 
 module _ (number : ℕ → ℕ) where
   -- The cells stay as many as they were.

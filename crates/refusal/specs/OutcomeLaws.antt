@@ -30,6 +30,7 @@ module _ {A B : Type 0} where
   unfolding followedBy
   followed-answered next e = rw e
 
-  pub followed-refused : {o : Outcome A} {number place : ℕ} (next : A → Outcome B) → o ≡ refused number place → followedBy o next ≡ refused number place
+  pub followed-refused : {o : Outcome A} {number place : ℕ} (next : A → Outcome B)
+      → o ≡ refused number place → followedBy o next ≡ refused number place
   unfolding followedBy
   followed-refused next e = rw e

@@ -116,7 +116,14 @@ matches-set keys choices choices′ occupants others place moving other m inO in
 
     go : Dec (v ≡ place) → getD (set others place (other + 1)) v 0 ≡ cellOf keys choices′ (getD (set occupants place (moving + 1)) v 0)
     go (yes e) =
-        rw (e, getD-set-same others place (other + 1) 0 inO, getD-set-same occupants place (moving + 1) 0 inP, add-one other, add-one moving, isOther)
+        rw (
+          e,
+          getD-set-same others place (other + 1) 0 inO,
+          getD-set-same occupants place (moving + 1) 0 inP,
+          add-one other,
+          add-one moving,
+          isOther,
+        )
         here
     go (no n) =
         rw (getD-set-other others place v (other + 1) 0 n, getD-set-other occupants place v (moving + 1) 0 n)
@@ -176,7 +183,8 @@ turn-start tags s before {places} size cells few = record {
 }
 
 -- The same under other names of the two places.
-pub turn-same : {tags : List ℕ} {s : ℕ} {places others : List ℕ} {seated place place′ other other′ left : ℕ} → place′ ≡ place → other′ ≡ other
+pub turn-same : {tags : List ℕ} {s : ℕ} {places others : List ℕ} {seated place place′ other other′ left : ℕ}
+    → place′ ≡ place → other′ ≡ other
     → Turn tags s places others seated place other left → Turn tags s places others seated place′ other′ left
 turn-same p q turn = rw (p, q) turn
 
@@ -212,7 +220,12 @@ module _
     unfolding otherUnder
     turn-other =
         let inside : turn .moving < length keys = omega (arith, reached-among (turn .reached), unfinished) in
-        omega (arith, turn .goes unseated .back, group-below tags s (turn .moving) inside (not (eqb (getD (turn .choices) (turn .moving) 0) 1)), turn .few)
+        omega (
+          arith,
+          turn .goes unseated .back,
+          group-below tags s (turn .moving) inside (not (eqb (getD (turn .choices) (turn .moving) 0) 1)),
+          turn .few,
+        )
 
     -- What the place's cell says of its occupant.
     abbrev has : ℕ
@@ -339,7 +352,8 @@ module _
             matches-set keys (turn .choices) toggled (turn .occupants) others place (turn .moving) other evicted
             (omega (arith, turn-place, turn .room)) (omega (arith, turn-place, turn .slots)) (turn .goes unseated .back)
             (λ i n. getD-set-other (turn .choices) evicted i (1 - was) 0 n) (λ e. it .still (sym e))
-            (λ v i n e m. n (reached-who (turn .reached) v i e .place ∙ ap (placeUnder keys (turn .choices)) m ∙ sym (it .place))) (turn .match);
+            (λ v i n e m. n (reached-who (turn .reached) v i e .place ∙ ap (placeUnder keys (turn .choices)) m ∙ sym (it .place)))
+            (turn .match);
         goes = λ lt. record {
           to = next ∙ rw (here, toggled-choice was two);
           back = it .place ∙ rw (here, twice-toggled was two);

@@ -62,14 +62,16 @@ build-small : (text : List ℕ) (room n : ℕ) → buildingFromText text room �
 unfolding buildingFromText followedBy
 build-small text room n = go (listFromText text)
   where
-    go : (o : Outcome Listed) → followedBy o (λ listed. buildingOf (listed .tags) (listed .groups) (listed .limit) room) ≡ answered n → n < tagEnd
+    go : (o : Outcome Listed)
+        → followedBy o (λ listed. buildingOf (listed .tags) (listed .groups) (listed .limit) room) ≡ answered n → n < tagEnd
     go (answered listed) e = omega (arith, answered-most (listed .tags) (listed .groups) (listed .limit) room e)
     go (refused reason place) e = absurd (let z : _≡_ {A = ℕ} 0 1 = cc in omega arith)
 
 -- So every outcome of building from a text fits,
 pub build-fits : (text : List ℕ) (room : ℕ) → Fits (buildingFromText text room)
 build-fits text room =
-    fits-of textLines (buildingFromText text room) (omega arith) (from-text-place text room) (build-numbered text room) (build-small text room)
+    fits-of textLines (buildingFromText text room) (omega arith)
+    (from-text-place text room) (build-numbered text room) (build-small text room)
 
 -- every outcome of checking,
 pub check-fits : (image : List ℕ) → Fits (checkingOf image)
@@ -82,7 +84,9 @@ check-fits image =
 -- and every outcome of lookup: a number is that of a slot, and unknown is no slot's.
 slots-numbered : (v : View) (t j : ℕ) (next : Outcome Found) → Numbered next → Numbered (atSlot v t j next)
 unfolding atSlot
-slots-numbered v t j next h = numbered-checks ((12, metAt (slotLineIn v j) (not (isSome (v .slotAt (slotLineIn v j))))) ∷ []) _ refl (numbered-cond (eqb (slotIn v j) t) (answered (number j)) next tt h)
+slots-numbered v t j next h =
+    numbered-checks ((12, metAt (slotLineIn v j) (not (isSome (v .slotAt (slotLineIn v j))))) ∷ [])
+    _ refl (numbered-cond (eqb (slotIn v j) t) (answered (number j)) next tt h)
 
 lookup-numbered : (image : List ℕ) (t : ℕ) → Numbered (lookupOf image t)
 unfolding lookupOf lookupInGroup lookupChecks groupChecks openingChecks
@@ -137,7 +141,8 @@ unfolding checkAnswer
 check-apart image image′ = answers-apart _ _ (check-fits image) (check-fits image′)
 
 -- and lookup.
-pub lookup-apart : (image image′ : List ℕ) (t t′ : ℕ) → lookupAnswer image t ≡ lookupAnswer image′ t′ → lookupOf image t ≡ lookupOf image′ t′
+pub lookup-apart : (image image′ : List ℕ) (t t′ : ℕ)
+    → lookupAnswer image t ≡ lookupAnswer image′ t′ → lookupOf image t ≡ lookupOf image′ t′
 unfolding lookupAnswer
 lookup-apart image image′ t t′ e =
     found-apart (lookupOf image t) (lookupOf image′ t′) (lookup-slot image t) (lookup-slot image′ t′)

@@ -224,7 +224,8 @@ pub fn read_tag_lines(bytes: &[u8], from: usize, end: usize, cells: &mut [u32; T
     requires { ⌜ (from ≤ end) × (lineLength * end ≤ length (now bytes)) ⌝ }
     requires { ⌜ length (now cells) ≡ tagsMax ⌝ }
     ensures answer { λ r. ⌜ firstMeaning r ≡ first (noTagFrom from (now (bytes .entry))) end ⌝ }
-    ensures cells { λ r. ⌜ now (cells .exit) ≡ tagsStored (passed (firstMeaning r) from end) from (now (bytes .entry)) (now (cells .entry)) ⌝ }
+    ensures cells { λ r. ⌜ now (cells .exit)
+        ≡ tagsStored (passed (firstMeaning r) from end) from (now (bytes .entry)) (now (cells .entry)) ⌝ }
 {
     let mut k = from;
     while k < end {
@@ -297,7 +298,8 @@ pub fn read_list_line(bytes: &[u8], at: usize) -> Tag
 // Writes a line of two numbers; the bytes before and after it stay.
 pub fn write_pair_line(buffer: &mut [u8], at: usize, a: u32, b: u32)
     requires { ⌜ at + lineLength ≤ length (now buffer) ⌝ }
-    ensures bytes { λ _. ⌜ now (buffer .exit) ≡ take at (now (buffer .entry)) ++ pairLine a b ++ drop (at + lineLength) (now (buffer .entry)) ⌝ }
+    ensures bytes { λ _. ⌜ now (buffer .exit)
+        ≡ take at (now (buffer .entry)) ++ pairLine a b ++ drop (at + lineLength) (now (buffer .entry)) ⌝ }
 {
     write_field(buffer, at, 5, a as u64);
     write_field(buffer, at + 5, 5, b as u64);
@@ -320,7 +322,8 @@ fn write_tag(buffer: &mut [u8], at: usize, t: u32)
 // Writes a line of one tag; the bytes before and after it stay.
 pub fn write_tag_line(buffer: &mut [u8], at: usize, t: u32)
     requires { ⌜ at + lineLength ≤ length (now buffer) ⌝ }
-    ensures bytes { λ _. ⌜ now (buffer .exit) ≡ take at (now (buffer .entry)) ++ tagLine t ++ drop (at + lineLength) (now (buffer .entry)) ⌝ }
+    ensures bytes { λ _. ⌜ now (buffer .exit)
+        ≡ take at (now (buffer .entry)) ++ tagLine t ++ drop (at + lineLength) (now (buffer .entry)) ⌝ }
 {
     write_tag(buffer, at, t);
     buffer[at + 10] = b'\n';

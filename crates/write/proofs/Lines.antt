@@ -52,7 +52,8 @@ module _ (ends seeds slots : List ℕ) (groups count : ℕ) where
   later-slot k some le = let e : suc (k - 1) ≡ k = omega (arith, some) in sym (rw e at (line-slot ends seeds slots groups count (k - 1) le))
 
   -- A line has room.
-  pub line-room : (k : ℕ) {room : ℕ} → Writable ends seeds slots groups count room → k < 1 + groups + count → lineLength * k + lineLength ≤ room
+  pub line-room : (k : ℕ) {room : ℕ} → Writable ends seeds slots groups count room
+      → k < 1 + groups + count → lineLength * k + lineLength ≤ room
   unfolding imageLength
   line-room k w lt = omega (arith, w .room-enough)
 

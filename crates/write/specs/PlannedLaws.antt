@@ -45,5 +45,7 @@ module _ {ordered ends seeds words : List ℕ} {groups count room : ℕ}
         groups = refl;
         start = λ g lt. refl;
         seed = λ g lt. refl;
-        slot = λ j lt. List·getD-append (allSlots ordered ends seeds groups) (drop (partStart ends groups) before) 0 j (omega (arith, slots-many));
+        slot =
+            λ j lt. List·getD-append (allSlots ordered ends seeds groups)
+            (drop (partStart ends groups) before) 0 j (omega (arith, slots-many));
       })

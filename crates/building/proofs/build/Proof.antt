@@ -40,7 +40,8 @@ returns-2 c =
     let a = known .before .args in
     let groups-legal = sym (grouped .outside .ensures) ∙ legal-groups .if1 .left in
     promised-refusal (a .tags .now) (a .groups) (a .limit) (a .buffer .now) (λ i. omega (arith, known .shared-slice-known .given i))
-    (c .refuse2 .ensures) (building-limit (a .tags .now) (a .groups) (a .limit) _ groups-legal (sym (limited .outside2 .ensures) ∙ c .before .if2 .taken))
+    (c .refuse2 .ensures)
+    (building-limit (a .tags .now) (a .groups) (a .limit) _ groups-legal (sym (limited .outside2 .ensures) ∙ c .before .if2 .taken))
 
 refuse-requires-3 : tie.Need-refuse-requires-3
 refuse-requires-3 c κs = search needs
@@ -115,7 +116,8 @@ returns-5 c =
     let up = sym (compared .first-not-above .ensures) ∙ ap firstMeaning (rising .enum-told .given .1) in
     promised-refusal (a .tags .now) (a .groups) (a .limit) (a .buffer .now) (λ i. omega (arith, known .shared-slice-known .given i))
     (c .refuse5 .ensures)
-    (building-short (a .tags .now) (a .groups) (a .limit) _ groups-legal limit-legal (few .if3 .left) up (rw (measured .image-length .ensures) at (c .before .if4 .taken)))
+    (building-short (a .tags .now) (a .groups) (a .limit) _ groups-legal limit-legal
+    (few .if3 .left) up (rw (measured .image-length .ensures) at (c .before .if4 .taken)))
 
 build-admitted-requires : tie.Need-build-admitted-requires
 build-admitted-requires c κs =

@@ -20,12 +20,16 @@ use Rattle.building.proofs.build_ordered.Reads as build-reads
 use Rattle.building.proofs.refuse.Reads as refuse-reads
 use Rattle.order.proofs.order_by_group.Reads as order-reads
 
+abbrev claims : lts.Claims
+claims =
+    (order-reads.Asked, order-reads.Learnt, refuse-reads.Asked, refuse-reads.Learnt, build-reads.Asked, build-reads.Learnt)
+
 -- Where the function begins, and where the tags are ordered.
 abbrev Entry : Type 0
-Entry = lts.Start (order-reads.Asked, order-reads.Learnt, refuse-reads.Asked, refuse-reads.Learnt, build-reads.Asked, build-reads.Learnt) reads.Pre reads.Post
+Entry = lts.Start claims reads.Pre reads.Post
 
 abbrev Ordered : Type 0
-Ordered = lts.After-enum-told (order-reads.Asked, order-reads.Learnt, refuse-reads.Asked, refuse-reads.Learnt, build-reads.Asked, build-reads.Learnt) reads.Pre reads.Post
+Ordered = lts.After-enum-told claims reads.Pre reads.Post
 
 abbrev entry : Ordered → Entry
 entry c = c .before .before .before .before .before .before .before
@@ -49,7 +53,8 @@ ordered-are c = c .before .before .order-by-group .ensures .1 .1 ∙ unless-none
 ordered-long : (c : Ordered) → length (ordered c) ≡ tagsMax
 ordered-long c =
     ap length (ordered-are c)
-    ∙ ordered-length (entry c .args .groups) (entry c .args .tags .now) (legal (entry c) .0) (replicate tagsMax 0) (entry c .pre .count-legal)
+    ∙ ordered-length (entry c .args .groups) (entry c .args .tags .now)
+    (legal (entry c) .0) (replicate tagsMax 0) (entry c .pre .count-legal)
 
 order-by-group-requires : tie.Need-order-by-group-requires
 order-by-group-requires c κs =
@@ -81,7 +86,8 @@ slice-aggregate-build-ordered c = sym (ordered-long (c .before))
 slice-aggregate-build-ordered-2 : tie.Need-slice-aggregate-build-ordered-2
 slice-aggregate-build-ordered-2 c =
     let start = entry (c .before .before) in
-    sym (ap length (ends-are (c .before .before)) ∙ ends-long (start .args .groups) (start .args .tags .now) _ (legal start .0) (legal start .1))
+    sym (ap length (ends-are (c .before .before))
+    ∙ ends-long (start .args .groups) (start .args .tags .now) _ (legal start .0) (legal start .1))
 
 build-ordered-requires : tie.Need-build-ordered-requires
 build-ordered-requires c κs =
@@ -91,7 +97,9 @@ build-ordered-requires c κs =
     record {
       admitted = start .pre;
       small = sym (told .before .before .order-by-group .ensures .0) ∙ ap firstMeaning (told .enum-told .given .1);
-      sorted = sorted-of-ordered (a .groups) (a .tags .now) (replicate groupsMax 0) (legal start .0) (legal start .1) (replicate tagsMax 0) (ends-are told) (ordered-are told) (start .pre .count-legal);
+      sorted =
+          sorted-of-ordered (a .groups) (a .tags .now) (replicate groupsMax 0) (legal start .0)
+          (legal start .1) (replicate tagsMax 0) (ends-are told) (ordered-are told) (start .pre .count-legal);
       cells = omega (arith, ordered-long told);
     }
 

@@ -31,7 +31,8 @@ returns c =
     let planned = c .before .before .before .before in
     let start = planned .before .before .before .before .before .before .before in
     let a = start .args in
-    let lowest = sym (seedless-first (start .pre)) ∙ sym (planned .plan-groups .ensures .0) ∙ ap firstMeaning (c .before .before .g .given .1) in
+    let lowest = sym (seedless-first (start .pre)) ∙ sym (planned .plan-groups .ensures .0)
+    ∙ ap firstMeaning (c .before .before .g .given .1) in
     let outcome = building-seedless (start .pre .admitted) (start .pre .small) lowest in
     (c .refuse .ensures ∙ sym outcome, sym (buffer-kept (a .tags .now) (a .groups) (a .limit) (a .buffer .now) outcome))
 

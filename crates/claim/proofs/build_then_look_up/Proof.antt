@@ -31,7 +31,8 @@ slice-aggregate-lookup c =
     let built = told .before .before .before .before in
     let a = built .before .before .before .before .args in
     let outcome = sym (built .build .ensures .0) ∙ ap buildOutcome (told .size .given .1) in
-    sym (length-take-le _ _ (written-within (a .tags .now) (a .groups) (a .limit) (a .buffer .now) (a .tag) (built .build .ensures .1 .0) outcome))
+    sym (length-take-le _ _
+    (written-within (a .tags .now) (a .groups) (a .limit) (a .buffer .now) (a .tag) (built .build .ensures .1 .0) outcome))
 
 lookup-requires : tie.Need-lookup-requires
 lookup-requires c κs = search needs
@@ -50,7 +51,8 @@ returns c =
     let a = known .before .args in
     let outcome = sym (built .build .ensures .0) ∙ ap buildOutcome (told .size .given .1) in
     let words = tags-of-words (a .tags .now) (λ i. omega (arith, known .shared-slice-known .given i)) in (
-      c .lookup .ensures .0 ∙ claim-found (a .tags .now) (a .groups) (a .limit) (a .buffer .now) (a .tag) words (built .build .ensures .1 .0) outcome,
+      c .lookup .ensures .0
+          ∙ claim-found (a .tags .now) (a .groups) (a .limit) (a .buffer .now) (a .tag) words (built .build .ensures .1 .0) outcome,
       (built .build .ensures .1 .0, rw (built .build .ensures .0) at (built .build .ensures .1 .1)),
     )
 

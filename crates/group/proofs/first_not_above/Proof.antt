@@ -41,7 +41,8 @@ unfolding ascendingCheck
 returns c =
     let loop = c .before .before .before .before in
     let tags = loop .before .args .tags .now in
-    sym (first-found (notAbove tags) _ _ (c .before .before .before .loop-test .taken) (not-above tags _ (loop .loop .inv .0) (c .if1 .taken)) (loop .loop .inv .1))
+    sym (first-found (notAbove tags) _ _ (c .before .before .before .loop-test .taken)
+    (not-above tags _ (loop .loop .inv .0) (c .if1 .taken)) (loop .loop .inv .1))
 
 add-i : tie.Need-add-i Inv-loop μ-loop
 add-i c = search needs

@@ -35,7 +35,8 @@ returns-4 : tie.Need-returns-4
 returns-4 c =
     let a = c .before .before .before .before .before .args in
     let in-range : outside 1 groupMax (a .n) ≡ false = cc in
-    rw (c .place-of .ensures) (sym (one-tag-place (a .n) (a .seed) (a .choice) (a .tag) in-range (c .before .before .if2 .left) (c .before .if3 .left)))
+    rw (c .place-of .ensures)
+    (sym (one-tag-place (a .n) (a .seed) (a .choice) (a .tag) in-range (c .before .before .if2 .left) (c .before .if3 .left)))
 
 pub place-of-one-tag-spec : {M : Type 1} → statement M
 place-of-one-tag-spec =

@@ -44,7 +44,8 @@ returns-2 c =
     let start = read .before .before .before in
     let image = start .args .image .now in
     sym (end-of-next image (start .pre .0) (start .args .g) (omega (arith, read .before .if1 .left, start .pre .1)) none
-    (line-reads pairMeaning groupLine image (1 + (start .args .g + 1)) (suc (suc (start .args .g))) (read .read-group-line .ensures) (c .enum-told .given .1) (omega arith)))
+    (line-reads pairMeaning groupLine image (1 + (start .args .g + 1)) (suc (suc (start .args .g)))
+    (read .read-group-line .ensures) (c .enum-told .given .1) (omega arith)))
 
 returns-3 : tie.Need-returns-3
 returns-3 c =
@@ -52,7 +53,8 @@ returns-3 c =
     let start = read .before .before .before in
     let image = start .args .image .now in
     sym (end-of-next image (start .pre .0) (start .args .g) (omega (arith, read .before .if1 .left, start .pre .1)) (some _)
-    (line-reads pairMeaning groupLine image (1 + (start .args .g + 1)) (suc (suc (start .args .g))) (read .read-group-line .ensures) (c .before .start .given .1) (omega arith)))
+    (line-reads pairMeaning groupLine image (1 + (start .args .g + 1)) (suc (suc (start .args .g)))
+    (read .read-group-line .ensures) (c .before .start .given .1) (omega arith)))
 
 pub group-end-spec : {M : Type 1} → statement M
 group-end-spec =

@@ -75,7 +75,7 @@ returns-2 c =
     let g = read .before .group-of .result in
     let start = read .before .before .before in
     let a = start .args in
-    let own = line-reads pairMeaning groupLine (a .image .now) (1 + g) (1 + g) (read .read-group-line .ensures) (told .start .given .1) refl in
+    let own = line-reads pairMeaning groupLine (a .image .now) _ (1 + g) (read .read-group-line .ensures) (told .start .given .1) refl in
     rw (← read .before .group-of .ensures)
     (c .malformed2 .ensures
     ∙ sym (next-malformed (a .image .now) (a .tag) g (1 + g) (omega arith) _ _ own
@@ -100,7 +100,7 @@ returns-3 c =
     let g = read .before .group-of .result in
     let start = read .before .before .before in
     let a = start .args in
-    let own = line-reads pairMeaning groupLine (a .image .now) (1 + g) (1 + g) (read .read-group-line .ensures) (told .start .given .1) refl in
+    let own = line-reads pairMeaning groupLine (a .image .now) _ (1 + g) (read .read-group-line .ensures) (told .start .given .1) refl in
     let ends = sym (ended .group-end .ensures) ∙ ap endMeaning (told2 .end .given .1) in
     let fault = sym (judged .faulty .ensures) ∙ c .before .if1 .taken in
     rw (← read .before .group-of .ensures)
@@ -122,11 +122,12 @@ returns-4 c =
     let g = read .before .group-of .result in
     let start = read .before .before .before in
     let a = start .args in
-    let own = line-reads pairMeaning groupLine (a .image .now) (1 + g) (1 + g) (read .read-group-line .ensures) (told .start .given .1) refl in
+    let own = line-reads pairMeaning groupLine (a .image .now) _ (1 + g) (read .read-group-line .ensures) (told .start .given .1) refl in
     let ends = sym (ended .group-end .ensures) ∙ ap endMeaning (told2 .end .given .1) in
     rw (← read .before .group-of .ensures)
     (c .faulty3 .ensures
-    ∙ sym (group-faulty (a .image .now) (a .tag) g (1 + g) (omega arith) _ _ own _ ends (rw (start .pre .count-is, lt-ltb _ _ (c .before .if2 .taken), or-true))))
+    ∙ sym (group-faulty (a .image .now) (a .tag) g (1 + g) (omega arith) _ _ own _
+    ends (rw (start .pre .count-is, lt-ltb _ _ (c .before .if2 .taken), or-true))))
 
 in-slots-requires : tie.Need-in-slots-requires
 in-slots-requires c κs =
@@ -138,10 +139,12 @@ in-slots-requires c κs =
     let g = read .before .group-of .result in
     let start = read .before .before .before in
     let a = start .args in
-    let own = line-reads pairMeaning groupLine (a .image .now) (1 + g) (1 + g) (read .read-group-line .ensures) (told .start .given .1) refl in
+    let own = line-reads pairMeaning groupLine (a .image .now) _ (1 + g) (read .read-group-line .ensures) (told .start .given .1) refl in
     let ends = sym (ended .group-end .ensures) ∙ ap endMeaning (told2 .end .given .1) in
-    let fair = fair-of-faulty g _ _ (sym (judged .faulty .ensures) ∙ c .before .if1 .left) in
-    (start .pre .groups-is, (start .pre .groups-legal, fair .ascends, omega (arith, start .pre .count-legal, c .if2 .left), (group-only _ _ _ own) .2))
+    let fair = fair-of-faulty g _ _ (sym (judged .faulty .ensures) ∙ c .before .if1 .left) in (
+      start .pre .groups-is,
+      (start .pre .groups-legal, fair .ascends, omega (arith, start .pre .count-legal, c .if2 .left), (group-only _ _ _ own) .2),
+    )
 
 returns-5 : tie.Need-returns-5
 returns-5 c =
@@ -153,11 +156,12 @@ returns-5 c =
     let g = read .before .group-of .result in
     let start = read .before .before .before in
     let a = start .args in
-    let own = line-reads pairMeaning groupLine (a .image .now) (1 + g) (1 + g) (read .read-group-line .ensures) (told .start .given .1) refl in
+    let own = line-reads pairMeaning groupLine (a .image .now) _ (1 + g) (read .read-group-line .ensures) (told .start .given .1) refl in
     let ends = sym (ended .group-end .ensures) ∙ ap endMeaning (told2 .end .given .1) in
     rw (← read .before .group-of .ensures)
     (c .in-slots .ensures
-    ∙ sym (group-slots (a .image .now) (a .tag) g (1 + g) (omega arith) _ _ own _ ends (sym (judged .faulty .ensures) ∙ c .before .before .if1 .left) (rw (start .pre .count-is) (c .before .if2 .left))))
+    ∙ sym (group-slots (a .image .now) (a .tag) g (1 + g) (omega arith) _ _ own _ ends
+    (sym (judged .faulty .ensures) ∙ c .before .before .if1 .left) (rw (start .pre .count-is) (c .before .if2 .left))))
 
 pub in-group-spec : {M : Type 1} → statement M
 in-group-spec =

@@ -28,7 +28,8 @@ returns c =
     let told = c .before .before in
     let opened = told .before .before in
     let a = opened .before .before .args in
-    let answer = c .in-group .ensures ∙ sym (lookup-opened (a .image .now) (sym (opened .open .ensures) ∙ ap openedOutcome (told .count .given .1)) (a .tag)) in
+    let answer = c .in-group .ensures
+    ∙ sym (lookup-opened (a .image .now) (sym (opened .open .ensures) ∙ ap openedOutcome (told .count .given .1)) (a .tag)) in
     (answer, rw answer (lookup-condition2 (a .image .now) (a .tag)))
 
 returns-2 : tie.Need-returns-2
@@ -36,7 +37,8 @@ returns-2 c =
     let told = c .before in
     let opened = told .before .before in
     let a = opened .before .before .args in
-    let answer = sym (lookup-unopened (a .image .now) (a .tag) (sym (opened .open .ensures) ∙ ap openedOutcome (told .refusal .given .1))) in
+    let answer =
+    sym (lookup-unopened (a .image .now) (a .tag) (sym (opened .open .ensures) ∙ ap openedOutcome (told .refusal .given .1))) in
     (answer, rw answer (lookup-condition2 (a .image .now) (a .tag)))
 
 pub lookup-spec : {M : Type 1} → statement M

@@ -15,7 +15,8 @@ returns-2 c = let a = c .before .before .args in sym (faulty-large (a .g) (a .st
 returns-3 : tie.Need-returns-3
 returns-3 c =
     let a = c .before .before .before .args in
-    sym (faulty-of-fair (a .g) (a .start) (a .next) (record { zero-first = λ z. absurd (c .if3 .taken z); ascends = omega arith; small = omega arith }))
+    sym (faulty-of-fair (a .g) (a .start) (a .next)
+    (record { zero-first = λ z. absurd (c .if3 .taken z); ascends = omega arith; small = omega arith }))
 
 returns-4 : tie.Need-returns-4
 returns-4 c =

@@ -60,7 +60,8 @@ returns-3 c =
     let a = ranged .before .before .args in
     let legal = sym (ranged .outside .ensures) ∙ legal-limit .if1 .left in
     c .refuse3 .ensures
-    ∙ sym (placing-descends (a .tags .now) (a .limit) legal (compared .before .if2 .left) (sym (compared .first-not-above .ensures) ∙ ap firstMeaning (met .i .given .1)))
+    ∙ sym (placing-descends (a .tags .now) (a .limit) legal (compared .before .if2 .left)
+    (sym (compared .first-not-above .ensures) ∙ ap firstMeaning (met .i .given .1)))
 
 enum-told : tie.Need-enum-told
 enum-told c = search needs
@@ -94,7 +95,8 @@ returns-4 c =
     let legal = sym (ranged .outside .ensures) ∙ legal-limit .if1 .left in
     let up = sym (compared .first-not-above .ensures) ∙ ap firstMeaning (rising .enum-told .given .1) in
     c .refuse4 .ensures
-    ∙ sym (placing-unseeded (a .tags .now) (a .limit) legal (compared .before .if2 .left) up (sym (searched .least-seed .ensures .0) ∙ ap foundMeaning (c .before .enum-told2 .given .1)))
+    ∙ sym (placing-unseeded (a .tags .now) (a .limit) legal (compared .before .if2 .left) up
+    (sym (searched .least-seed .ensures .0) ∙ ap foundMeaning (c .before .enum-told2 .given .1)))
 
 slice-aggregate-least-choices : tie.Need-slice-aggregate-least-choices
 slice-aggregate-least-choices c =

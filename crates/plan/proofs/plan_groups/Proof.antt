@@ -5,7 +5,8 @@ use mathlib.Core.Path.{sym, _∙_, ap}
 use Prim.Native.Nat.{_-_}
 use native.Mathlib.Omega.{arith}
 use Rattle.placing.specs.Answer.{placingOutcome}
-use Rattle.plan.proofs.Planning.{PlannedUpTo, planned-start, part-is, part-follows, part-inside, planned-turn, planned-without, planned-done}
+use Rattle.plan.proofs.Planning.{PlannedUpTo, planned-start, part-is, part-follows}
+use Rattle.plan.proofs.Planning.{part-inside, planned-turn, planned-without, planned-done}
 use borrow.Author.Needs.{needs}
 use Rattle.plan.proofs.plan_groups.Statement.{statement}
 use Rattle.plan.proofs.plan_groups.Tie as tie
@@ -71,7 +72,8 @@ returns c =
     let loop = turn .before in
     let start = loop .before .before .before in
     let outcome = sym (placed .place-group .ensures) ∙ ap placingOutcome (c .enum-told .given .1) in
-    let lowest = planned-without (start .pre .0) (loop .loop .inv) (turn .loop-test .taken) (part-is (start .pre .0) (loop .loop .inv) (turn .loop-test .taken)) outcome in
+    let lowest = planned-without (start .pre .0) (loop .loop .inv) (turn .loop-test .taken)
+    (part-is (start .pre .0) (loop .loop .inv) (turn .loop-test .taken)) outcome in
     (sym lowest, (loop .loop .inv .seeds-are, loop .loop .inv .words-are))
 
 mul-seeds : tie.Need-mul-seeds Inv-loop μ-loop

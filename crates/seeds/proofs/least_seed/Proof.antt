@@ -1,16 +1,24 @@
 -- `seeds::least_seed` meets its contract: the eviction loop is only in states that bounded cuckoo insertion reaches, so it accepts
 -- the first seed that something fills and no seed before it is one. The measure's 128 is more than the evictions that an insertion may
 -- make, 2 * groupMax + 1. Assumes nothing.
-use Prim.Native.Nat.{_+_, _*_, _-_}
+use Prim.Native.Nat.{ℕ, _+_, _*_, _-_, _<_}
 use mathlib.Core.Path.{_≡_, sym, _∙_}
+use mathlib.Core.List.{List}
 use mathlib.Core.Logic.{⊎-elim}
 use native.Mathlib.Omega.{arith}
 use lib.ListN.{length}
 use borrow.Author.Needs.{needs}
+use Rattle.refusal.specs.Limits.{groupMax}
 use Rattle.seeds.specs.Tried.{tried}
-use Rattle.seeds.proofs.Turns.{Passed, passed-start, passed-more, passed-out, passed-found, laid-next, dropped, Turn, turn-start, turn-same, turn-all, turn-place, turn-other, turn-last, next-first, turn-first, turn-second, turn-evict, turn-spent}
+use Rattle.seeds.proofs.Turns.{Passed, passed-start, passed-more, passed-out, passed-found, laid-next, dropped}
+use Rattle.seeds.proofs.Turns.{Turn, turn-start, turn-same, turn-all, turn-place, turn-other, turn-last}
+use Rattle.seeds.proofs.Turns.{next-first, turn-first, turn-second, turn-evict, turn-spent}
 use Rattle.seeds.proofs.least_seed.Statement.{statement}
 use Rattle.seeds.proofs.least_seed.Tie as tie
+use Rattle.seeds.proofs.least_seed.Reads as reads
+use Rattle.seeds.proofs.least_seed.Lts as lts
+use Rattle.seeds.proofs.size_of.Reads as size
+use Rattle.seeds.proofs.lay_out.Reads as laying
 
 abbrev Inv-evict : tie.InvT-evict
 Inv-evict tags limit places n next s occupied others₀ seated₀ place₀ other₀ left₀ others seated place other left =
@@ -25,6 +33,19 @@ Inv-seeds tags limit places₀ n next₀ places next = Passed tags limit places�
 
 abbrev μ-seeds : tie.MeasureT-seeds
 μ-seeds tags limit places₀ n next₀ places next = limit - next
+
+-- A turn of the inner loop with a tag still to be seated.
+abbrev Turning : Type 0
+Turning = lts.Else3 (size.Asked, size.Learnt, laying.Asked, laying.Learnt) reads.Pre reads.Post Inv-evict μ-evict Inv-seeds μ-seeds
+
+abbrev tags : Turning → List ℕ
+tags c = c .before .before .before .before .before .before .before .before .before .before .before .args .tags .now
+
+more : (c : Turning) → c .before .evict .seated ≡ length (tags c) → ⊥
+more c e = c .if3 .left (e ∙ sym (c .before .before .before .before .before .before .before .before .before .size-of .ensures))
+
+place-below : (c : Turning) → c .before .evict .place < groupMax
+place-below c = turn-place (c .before .evict .inv) (more c)
 
 size-of-requires : tie.Need-size-of-requires Inv-evict μ-evict Inv-seeds μ-seeds
 size-of-requires c κs = search needs
@@ -72,52 +93,25 @@ evict-holds c =
     (laid .lay-out .ensures .1) (omega arith)
 
 cast-taken : tie.Need-cast-taken Inv-evict μ-evict Inv-seeds μ-seeds
-cast-taken c =
-    let at = c .before in
-    let sized = at .before .before .before .before .before .before .before .before .size-of .ensures in
-    let place = turn-place (at .evict .inv) (λ e. c .if3 .left (e ∙ sym sized)) in
-    record { fits = omega (arith, place) }
+cast-taken c = record { fits = omega (arith, place-below c) }
 
 mul-taken : tie.Need-mul-taken Inv-evict μ-evict Inv-seeds μ-seeds
-mul-taken c =
-    let at = c .before in
-    let sized = at .before .before .before .before .before .before .before .before .size-of .ensures in
-    let place = turn-place (at .evict .inv) (λ e. c .if3 .left (e ∙ sym sized)) in
-    omega (arith, place)
+mul-taken c = omega (arith, place-below c)
 
 array-read-taken : tie.Need-array-read-taken Inv-evict μ-evict Inv-seeds μ-seeds
-array-read-taken c =
-    let at = c .before in
-    let sized = at .before .before .before .before .before .before .before .before .size-of .ensures in
-    let place = turn-place (at .evict .inv) (λ e. c .if3 .left (e ∙ sym sized)) in
-    omega (arith, place)
+array-read-taken c = omega (arith, place-below c)
 
 add-others : tie.Need-add-others Inv-evict μ-evict Inv-seeds μ-seeds
-add-others c =
-    let at = c .before in
-    let sized = at .before .before .before .before .before .before .before .before .size-of .ensures in
-    omega (arith, turn-other (at .evict .inv) (λ e. c .if3 .left (e ∙ sym sized)))
+add-others c = omega (arith, turn-other (c .before .evict .inv) (more c))
 
 cast-others : tie.Need-cast-others Inv-evict μ-evict Inv-seeds μ-seeds
-cast-others c =
-    let at = c .before in
-    let sized = at .before .before .before .before .before .before .before .before .size-of .ensures in
-    let place = turn-place (at .evict .inv) (λ e. c .if3 .left (e ∙ sym sized)) in
-    record { fits = omega (arith, place) }
+cast-others c = record { fits = omega (arith, place-below c) }
 
 mul-others : tie.Need-mul-others Inv-evict μ-evict Inv-seeds μ-seeds
-mul-others c =
-    let at = c .before in
-    let sized = at .before .before .before .before .before .before .before .before .size-of .ensures in
-    let place = turn-place (at .evict .inv) (λ e. c .if3 .left (e ∙ sym sized)) in
-    omega (arith, place)
+mul-others c = omega (arith, place-below c)
 
 array-write-others : tie.Need-array-write-others Inv-evict μ-evict Inv-seeds μ-seeds
-array-write-others c =
-    let at = c .before in
-    let sized = at .before .before .before .before .before .before .before .before .size-of .ensures in
-    let place = turn-place (at .evict .inv) (λ e. c .if3 .left (e ∙ sym sized)) in
-    omega (arith, place)
+array-write-others c = omega (arith, place-below c)
 
 add-seated : tie.Need-add-seated Inv-evict μ-evict Inv-seeds μ-seeds
 add-seated c = search needs
@@ -145,32 +139,20 @@ element-copy-out-other-2 c = search needs
 
 cast-if6 : tie.Need-cast-if6 Inv-evict μ-evict Inv-seeds μ-seeds
 cast-if6 c =
-    let entering = c .before .before in
-    let free = entering .before in
-    let turned = free .before in
-    let at = turned .before in
-    let sized = at .before .before .before .before .before .before .before .before .size-of .ensures in
-    let below = next-first (at .evict .inv) (λ e. turned .if3 .left (e ∙ sym sized)) (free .if4 .taken) (omega arith) in
+    let free = c .before .before .before in
+    let below = next-first (free .before .before .evict .inv) (more (free .before)) (free .if4 .taken) (omega arith) in
     record { fits = omega (arith, below) }
 
 mul-if6 : tie.Need-mul-if6 Inv-evict μ-evict Inv-seeds μ-seeds
 mul-if6 c =
-    let entering = c .before .before in
-    let free = entering .before in
-    let turned = free .before in
-    let at = turned .before in
-    let sized = at .before .before .before .before .before .before .before .before .size-of .ensures in
-    let below = next-first (at .evict .inv) (λ e. turned .if3 .left (e ∙ sym sized)) (free .if4 .taken) (omega arith) in
+    let free = c .before .before .before in
+    let below = next-first (free .before .before .evict .inv) (more (free .before)) (free .if4 .taken) (omega arith) in
     omega (arith, below)
 
 array-read-if6 : tie.Need-array-read-if6 Inv-evict μ-evict Inv-seeds μ-seeds
 array-read-if6 c =
-    let entering = c .before .before in
-    let free = entering .before in
-    let turned = free .before in
-    let at = turned .before in
-    let sized = at .before .before .before .before .before .before .before .before .size-of .ensures in
-    let below = next-first (at .evict .inv) (λ e. turned .if3 .left (e ∙ sym sized)) (free .if4 .taken) (omega arith) in
+    let free = c .before .before .before in
+    let below = next-first (free .before .before .evict .inv) (more (free .before)) (free .if4 .taken) (omega arith) in
     omega (arith, below)
 
 mul-left : tie.Need-mul-left Inv-evict μ-evict Inv-seeds μ-seeds
@@ -185,16 +167,13 @@ evict-less c = search needs
 evict-again : tie.Need-evict-again Inv-evict μ-evict Inv-seeds μ-seeds
 evict-again c =
     let free = c .before in
-    let turned = free .before in
-    let at = turned .before in
-    let size-of = at .before .before .before .before .before .before .before .before in
-    let more : at .evict .seated ≡ length (size-of .before .before .args .tags .now) → ⊥ =
-    λ e. turned .if3 .left (e ∙ sym (size-of .size-of .ensures)) in
+    let inv = free .before .before .evict .inv in
+    let unseated = more (free .before) in
     ⊎-elim
-    (λ p. turn-same (p .4) (p .5) (turn-second (at .evict .inv) more (free .if4 .taken) (omega (arith, p .0 .taken))))
+    (λ p. turn-same (p .4) (p .5) (turn-second inv unseated (free .if4 .taken) (omega (arith, p .0 .taken))))
     (λ rest. ⊎-elim
-    (λ p. turn-same (p .4) (p .5) (turn-first (at .evict .inv) more (free .if4 .taken) (omega (arith, p .0 .taken))))
-    (λ p. turn-same (p .1) (p .2) (turn-last (at .evict .inv) more (free .if4 .taken) (omega (arith, p .0 .left))))
+    (λ p. turn-same (p .4) (p .5) (turn-first inv unseated (free .if4 .taken) (omega (arith, p .0 .taken))))
+    (λ p. turn-same (p .1) (p .2) (turn-last inv unseated (free .if4 .taken) (omega (arith, p .0 .left))))
     rest)
     (c .if5 .came)
 
@@ -207,9 +186,8 @@ seeds-again-2 c =
     let at = turned .before in
     let laid = at .before .before .before .before in
     let seeds = laid .before .before .before in
-    let sized = seeds .before .size-of .ensures in
     passed-more (omega arith) (seeds .seeds .inv) (laid .lay-out .ensures .1) (omega arith)
-    (turn-spent (at .evict .inv) (λ e. turned .if3 .left (e ∙ sym sized)) (c .before .if4 .left) (c .if7 .taken))
+    (turn-spent (at .evict .inv) (more turned) (c .before .if4 .left) (c .if7 .taken))
 
 sub-left : tie.Need-sub-left Inv-evict μ-evict Inv-seeds μ-seeds
 sub-left c = search needs
@@ -223,9 +201,7 @@ evict-less-2 c = search needs
 evict-again-2 : tie.Need-evict-again-2 Inv-evict μ-evict Inv-seeds μ-seeds
 evict-again-2 c =
     let turned = c .before .before in
-    let at = turned .before in
-    let sized = at .before .before .before .before .before .before .before .before .size-of .ensures in
-    turn-evict (at .evict .inv) (λ e. turned .if3 .left (e ∙ sym sized)) (c .before .if4 .left) (c .if7 .left)
+    turn-evict (turned .before .evict .inv) (more turned) (c .before .if4 .left) (c .if7 .left)
 
 returns-2 : tie.Need-returns-2 Inv-evict μ-evict Inv-seeds μ-seeds
 unfolding tried
@@ -233,8 +209,10 @@ returns-2 c =
     let at = c .before in
     let laid = at .before .before .before .before in
     let seeds = laid .before .before .before in
-    let (cs, fills) = turn-all (at .evict .inv) (c .if3 .taken ∙ seeds .before .size-of .ensures) in
-    (passed-found (omega arith) (seeds .seeds .inv) (omega arith) cs fills, laid-next (omega arith) (seeds .seeds .inv) (laid .lay-out .ensures .1))
+    let (cs, fills) = turn-all (at .evict .inv) (c .if3 .taken ∙ seeds .before .size-of .ensures) in (
+      passed-found (omega arith) (seeds .seeds .inv) (omega arith) cs fills,
+      laid-next (omega arith) (seeds .seeds .inv) (laid .lay-out .ensures .1),
+    )
 
 pub least-seed-spec : {M : Type 1} → statement M
 least-seed-spec =

@@ -54,7 +54,8 @@ unfolding lookupAnswer answer64 answeredBy foundNumber
 returns-2 c =
     let looked = c .before .before in
     let a = looked .before .before .args in
-    answered-condition2 (a .image .now) (a .tag) (ap answerOf (sym (ap lookupOutcome (c .enum-told .given .1)) ∙ looked .lookup .ensures .0))
+    answered-condition2 (a .image .now) (a .tag)
+    (ap answerOf (sym (ap lookupOutcome (c .enum-told .given .1)) ∙ looked .lookup .ensures .0))
 
 returns-3 : tie.Need-returns-3
 unfolding lookupAnswer answer64 answeredBy

@@ -43,7 +43,13 @@ returns-4 c =
     let told = c .before .before .before .before in
     let n = told .n .given .0 .0 in
     let b = told .n .given .0 .1 .0 in
-    rw (← told .before .before .read-pair .ensures, told .n .given .1, le-leb n tagsMax (omega arith), le-leb 1 b (omega arith), lt-leb b groupsMax (omega arith))
+    rw (
+      ← told .before .before .read-pair .ensures,
+      told .n .given .1,
+      le-leb n tagsMax (omega arith),
+      le-leb 1 b (omega arith),
+      lt-leb b groupsMax (omega arith),
+    )
 
 returns-5 : tie.Need-returns-5
 unfolding imageHeader within
@@ -51,7 +57,13 @@ returns-5 c =
     let told = c .before .before .before .before in
     let n = told .n .given .0 .0 in
     let b = told .n .given .0 .1 .0 in
-    rw (← told .before .before .read-pair .ensures, told .n .given .1, le-leb n tagsMax (omega arith), le-leb 1 b (omega arith), le-leb b groupsMax (omega arith))
+    rw (
+      ← told .before .before .read-pair .ensures,
+      told .n .given .1,
+      le-leb n tagsMax (omega arith),
+      le-leb 1 b (omega arith),
+      le-leb b groupsMax (omega arith),
+    )
 
 pub read-image-header-spec : {M : Type 1} → statement M
 read-image-header-spec =

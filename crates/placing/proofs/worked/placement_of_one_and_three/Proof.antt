@@ -22,7 +22,9 @@ use Rattle.placing.proofs.worked.placement_of_one_and_three.Statement.{
 use Rattle.placing.proofs.worked.placement_of_one_and_three.Tie as tie
 
 computed : placingOf (1 ∷ 3 ∷ []) 2 ≡ answered (record { seed = 1; word = 2 })
-unfolding orElse outside first metAt isSome met inOrder product highPart hashed multiplier placeOf occurs placeBy beginning leastFrom least feasible choiceNumber wordOf bothPlaces candidates leastSeed taken limitCheck notAbove ascendingCheck placingChecks placementOf placingOf
+unfolding orElse outside first metAt isSome met inOrder product highPart hashed multiplier placeOf occurs placeBy
+    beginning leastFrom least feasible choiceNumber wordOf bothPlaces candidates leastSeed taken limitCheck notAbove
+    ascendingCheck placingChecks placementOf placingOf
 computed = refl
 
 -- What an answer says.

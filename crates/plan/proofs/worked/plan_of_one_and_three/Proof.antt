@@ -58,7 +58,9 @@ plannable = record {
 
 -- `unfolding computed` opens every definition that these compute through.
 computed : ℕ
-unfolding orElse first metAt isSome product highPart hashed multiplier placeOf occurs placeBy beginning leastFrom least feasible choiceNumber wordOf bothPlaces candidates leastSeed taken placementOf partStart partOf unseeded partSeed partWord
+unfolding orElse first metAt isSome product highPart hashed multiplier placeOf occurs placeBy beginning leastFrom
+    least feasible choiceNumber wordOf bothPlaces candidates leastSeed taken placementOf partStart partOf unseeded
+    partSeed partWord
 computed = 0
 
 no-group-without : first (unseeded tags ends 2) 1 ≡ none
@@ -83,7 +85,8 @@ first-cell number before told planned =
 -- What the promise says of the two cells.
 promised : (before : List ℕ) {o : Option ℕ} {seeds words : List ℕ}
     → (o ≡ first (unseeded tags ends 2) 1)
-    × ((seeds ≡ cellsPlanned (partSeed tags ends 2) (Option·getD o 1) before) × (words ≡ cellsPlanned (partWord tags ends 2) (Option·getD o 1) before))
+    × ((seeds ≡ cellsPlanned (partSeed tags ends 2) (Option·getD o 1) before)
+    × (words ≡ cellsPlanned (partWord tags ends 2) (Option·getD o 1) before))
     → (getD seeds 0 0 ≡ 1) × (getD words 0 0 ≡ 2)
 promised before (told, (seeds, words)) =
     (first-cell (partSeed tags ends 2) before told seeds ∙ seed-is, first-cell (partWord tags ends 2) before told words ∙ word-is)
