@@ -53,17 +53,25 @@ module _ (tags : List ℕ) (groups limit : ℕ) where
         without = unseeded g (at .holds);
         lower = λ h lt.
             let has = seed-least groups tags limit h (at .lowest h lt) in
-            record { seed = seedTaken groups tags limit h; below = has .below; choices = choicesTaken groups tags limit h; fills = has .fills };
+            record {
+              seed = seedTaken groups tags limit h;
+              below = has .below;
+              choices = choicesTaken groups tags limit h;
+              fills = has .fills;
+            };
       }
 
   first-of-lowest : (g : ℕ) → LowestWithout groups tags limit g → first (seedless groups tags limit) groups ≡ some g
-  first-of-lowest g low = first-found (seedless groups tags limit) groups g (low .group) (here (seedless groups tags limit g) refl) (λ h lt. there h (low .lower h lt) (seedless groups tags limit h) refl)
+  first-of-lowest g low =
+      first-found (seedless groups tags limit) groups g (low .group) (here (seedless groups tags limit g) refl)
+      (λ h lt. there h (low .lower h lt) (seedless groups tags limit h) refl)
     where
       here : (b : Bool) → seedless groups tags limit g ≡ b → seedless groups tags limit g ≡ true
       here true e = e
       here false e =
           let has = seed-least groups tags limit g e in
-          absurd (low .without (seedTaken groups tags limit g) (has .below) (taken (members groups g tags) (seedTaken groups tags limit g)) (has .fills))
+          let seed = seedTaken groups tags limit g in
+          absurd (low .without seed (has .below) (taken (members groups g tags) seed) (has .fills))
 
       there : (h : ℕ) → HasSeed groups tags limit h → (b : Bool) → seedless groups tags limit h ≡ b → seedless groups tags limit h ≡ false
       there h has true e = absurd (unseeded h e (has .seed) (has .below) (has .choices) (has .fills))
@@ -82,7 +90,8 @@ module _ (tags : List ℕ) (groups limit : ℕ) where
         (pass-more (met-false (le-ltb tagsMax (length tags) (h .count-legal)))
         (pass-more (check-of-ascending tags (h .ascending))
         (pass-more (met-false (le-ltb room (lineLength * (1 + groups + length tags)) (h .fits)))
-        (pass-more (first-out (tooLarge groups tags) groups (λ g lt. le-ltb groupMax (length (members groups g tags)) (h .groups-small g lt)))
+        (pass-more
+            (first-out (tooLarge groups tags) groups (λ g lt. le-ltb groupMax (length (members groups g tags)) (h .groups-small g lt)))
         tt)))))
 
     earlier-of-pass : Pass earlier → EarlierChecks tags groups limit room
@@ -93,16 +102,20 @@ module _ (tags : List ℕ) (groups limit : ℕ) where
       count-legal = ltb-false tagsMax (length tags) (false-of-met _ (passed earlier h 5));
       ascending = ascending-of-check tags (passed earlier h 6);
       fits = ltb-false room (lineLength * (1 + groups + length tags)) (false-of-met _ (passed earlier h 9));
-      groups-small = λ g lt. ltb-false groupMax (length (members groups g tags)) (first-none (tooLarge groups tags) groups (passed earlier h 10) g lt);
+      groups-small = λ g lt.
+          let small = first-none (tooLarge groups tags) groups (passed earlier h 10) g lt in
+          ltb-false groupMax (length (members groups g tags)) small;
     }
 
     -- Where they pass, 7 decides.
     seven-decides : EarlierChecks tags groups limit room
-        → buildingOf tags groups limit room ≡ inOrder ((7, first (seedless groups tags limit) groups) ∷ []) (answered (imageLength groups (length tags)))
+        → buildingOf tags groups limit room
+        ≡ inOrder ((7, first (seedless groups tags limit) groups) ∷ []) (answered (imageLength groups (length tags)))
     unfolding buildingOf buildingChecks
     seven-decides h = inOrder-append earlier _ _ ∙ inOrder-pass earlier _ (pass-of-earlier h)
 
-    refused-of-lowest : EarlierChecks tags groups limit room → (g : ℕ) → LowestWithout groups tags limit g → buildingOf tags groups limit room ≡ refused 7 g
+    refused-of-lowest : EarlierChecks tags groups limit room → (g : ℕ) → LowestWithout groups tags limit g
+        → buildingOf tags groups limit room ≡ refused 7 g
     unfolding inOrder
     refused-of-lowest h g low = seven-decides h ∙ rw (first-of-lowest g low)
 
@@ -129,7 +142,8 @@ module _ (tags : List ℕ) (groups limit : ℕ) where
 
     -- An answer says that the checks before 7 pass, that every group has a seed, and the length.
     answered-says : {size : ℕ} → buildingOf tags groups limit room ≡ answered size
-        → EarlierChecks tags groups limit room × (first (seedless groups tags limit) groups ≡ none) × (imageLength groups (length tags) ≡ size)
+        → EarlierChecks tags groups limit room × (first (seedless groups tags limit) groups ≡ none)
+        × (imageLength groups (length tags) ≡ size)
     unfolding buildingOf buildingChecks
     answered-says e =
         let (passes, answer) = inOrder-answered (buildingChecks tags groups limit room) (answered (imageLength groups (length tags))) e in
@@ -137,7 +151,8 @@ module _ (tags : List ℕ) (groups limit : ℕ) where
         (earlier-of-pass front, back .0, cc)
 
     -- An accepted building, from the earlier checks and a seed for every group.
-    module _ (words : (t : ℕ) → occurs t tags ≡ true → t < tagEnd) (h : EarlierChecks tags groups limit room) (every : first (seedless groups tags limit) groups ≡ none) where
+    module _ (words : (t : ℕ) → occurs t tags ≡ true → t < tagEnd) (h : EarlierChecks tags groups limit room)
+        (every : first (seedless groups tags limit) groups ≡ none) where
       takes : (g : ℕ) → g < groups → LeastSeed (members groups g tags) limit (seedTaken groups tags limit g)
       takes g lt = seed-least groups tags limit g (first-none (seedless groups tags limit) groups every g lt)
 
@@ -147,19 +162,21 @@ module _ (tags : List ℕ) (groups limit : ℕ) where
       all-fill : AllFill groups tags (seedTaken groups tags limit) (choicesTaken groups tags limit)
       all-fill = taken-fill groups tags limit (h .groups-legal .0) (check-of-ascending tags (h .ascending)) every
 
-      in-range : InRange (sheetOf groups tags (seedTaken groups tags limit) (choicesTaken groups tags limit))
+      in-range : InRange sheet
       unfolding sheetOf numberOf
       in-range = record {
         count = h .count-legal;
         groups = h .groups-legal;
-        start = λ g lt. omega (arith, h .count-legal, start-before groups g groups tags (omega arith), start-all groups tags (h .groups-legal .0));
+        start = λ g lt.
+            let before = start-before groups g groups tags (omega arith) in
+            omega (arith, h .count-legal, before, start-all groups tags (h .groups-legal .0));
         seed = λ g lt. omega (arith, (takes g lt) .below, h .limit-legal);
         slot = λ j lt.
             let f = numberOf groups tags (seedTaken groups tags limit) (choicesTaken groups tags limit) in
             words (tagNumbered f tags j) ((tagNumbered-is f tags j (number-onto (all-placed all-fill) j lt)) .0);
       }
 
-      reads : Reads (viewOf (imageOf groups tags limit)) (sheetOf groups tags (seedTaken groups tags limit) (choicesTaken groups tags limit))
+      reads : Reads (viewOf (imageOf groups tags limit)) sheet
       unfolding imageOf
       reads = reads-back sheet in-range
 
@@ -195,12 +212,13 @@ unfolding checkingOf
 built-checked tags groups limit room words e =
     let (h, every, size) = answered-says tags groups limit room e in
     let v = viewOf (imageOf groups tags limit) in
-    let sound = built-sound (reads tags groups limit room words h every) (all-fill tags groups limit room words h every) (h .groups-small) in
+    let fill = all-fill tags groups limit room words h every in
+    let sound = built-sound (reads tags groups limit room words h every) fill (h .groups-small) in
     inOrder-pass (checkingChecks v) (answered 0) (pass-of-sound v sound)
 
 -- The buffer's first bytes after an accepted building are the image.
-pub image-written : (tags : List ℕ) (groups limit : ℕ) (before : List ℕ) (size : ℕ) → buildingOf tags groups limit (length before) ≡ answered size
-    → imageLength groups (length tags) ≡ size → take size (bufferAfter tags groups limit before) ≡ imageOf groups tags limit
+pub image-written : (tags : List ℕ) (groups limit : ℕ) (before : List ℕ) (size : ℕ)
+    → buildingOf tags groups limit (length before) ≡ answered size → imageLength groups (length tags) ≡ size → take size (bufferAfter tags groups limit before) ≡ imageOf groups tags limit
 unfolding bufferAfter written
 image-written tags groups limit before size e same =
     let image = imageOf groups tags limit in
@@ -223,7 +241,8 @@ condition3 tags groups limit before words = record {
     room : ℕ
     room = length before
 
-    accept : (size : ℕ) → buildingOf tags groups limit room ≡ answered size → Accepted tags groups limit (bufferAfter tags groups limit before) size
+    accept : (size : ℕ) → buildingOf tags groups limit room ≡ answered size
+        → Accepted tags groups limit (bufferAfter tags groups limit before) size
     accept size e =
         let (h, every, same) = answered-says tags groups limit room e in
         accepted-as tags groups limit room words h every size (bufferAfter tags groups limit before) (sym same)
@@ -231,8 +250,9 @@ condition3 tags groups limit before words = record {
 
 -- Lookup in the image that building writes, under the seeds and sequences that it takes.
 pub looked-up : (tags : List ℕ) (groups limit room : ℕ) {size : ℕ} → ((t : ℕ) → occurs t tags ≡ true → t < tagEnd)
-    → buildingOf tags groups limit room ≡ answered size → (t : ℕ) → lookupOf (imageOf groups tags limit) t
-    ≡ answered (cond (occurs t tags) (number (numberOf groups tags (seedTaken groups tags limit) (choicesTaken groups tags limit) t)) unknown)
+    → buildingOf tags groups limit room ≡ answered size → (t : ℕ)
+    → let own = numberOf groups tags (seedTaken groups tags limit) (choicesTaken groups tags limit) t in
+    lookupOf (imageOf groups tags limit) t ≡ answered (cond (occurs t tags) (number own) unknown)
 unfolding lookupOf
 looked-up tags groups limit room words e t = by (occurs t tags) refl
   where
@@ -242,7 +262,11 @@ looked-up tags groups limit room words e t = by (occurs t tags) refl
     every : first (seedless groups tags limit) groups ≡ none
     every = (answered-says tags groups limit room e) .1
 
-    by : (b : Bool) → occurs t tags ≡ b → lookupOf (imageOf groups tags limit) t
-        ≡ answered (cond (occurs t tags) (number (numberOf groups tags (seedTaken groups tags limit) (choicesTaken groups tags limit) t)) unknown)
-    by true m = rw m (built-listed (reads tags groups limit room words h every) (all-fill tags groups limit room words h every) (h .groups-small) t m)
-    by false m = rw m (built-unlisted (reads tags groups limit room words h every) (all-fill tags groups limit room words h every) (h .groups-small) t m)
+    fill : AllFill groups tags (seedTaken groups tags limit) (choicesTaken groups tags limit)
+    fill = all-fill tags groups limit room words h every
+
+    by : (b : Bool) → occurs t tags ≡ b
+        → let own = numberOf groups tags (seedTaken groups tags limit) (choicesTaken groups tags limit) t in
+        lookupOf (imageOf groups tags limit) t ≡ answered (cond (occurs t tags) (number own) unknown)
+    by true m = rw m (built-listed (reads tags groups limit room words h every) fill (h .groups-small) t m)
+    by false m = rw m (built-unlisted (reads tags groups limit room words h every) fill (h .groups-small) t m)

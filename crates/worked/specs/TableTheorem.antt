@@ -42,7 +42,11 @@ holds-only limit claims h l from upto = let e : limit ≡ l = omega arith in sub
 
 -- `unfolding computed` opens every definition that a row of small numbers computes through; leastSeed stays shut where L is not given.
 computed : ℕ
-unfolding AllHold Holds metAt isSome met inOrder orElse product highPart hashed groupOf multiplier placeOf oneTagChecks placeOfOneTag occurs distinct placeBy chosen beginning leastFrom least feasible choiceNumber wordOf bothPlaces candidates taken limitCheck notAbove ascendingCheck placingChecks placementOf placingOf imageLength select members startOf choiceOf placeIn numberOf tagNumbered leading figure pairLine flatten upTo linesOf bytesOf sheetOf seedTaken choicesTaken imageOf buildingChecks earlierChecks buildingOf written bufferAfter
+unfolding AllHold Holds metAt isSome met inOrder orElse product highPart hashed groupOf multiplier placeOf
+    oneTagChecks placeOfOneTag occurs distinct placeBy chosen beginning leastFrom least feasible choiceNumber wordOf
+    bothPlaces candidates taken limitCheck notAbove ascendingCheck placingChecks placementOf placingOf imageLength
+    select members startOf choiceOf placeIn numberOf tagNumbered leading figure pairLine flatten upTo linesOf bytesOf
+    sheetOf seedTaken choicesTaken imageOf buildingChecks earlierChecks buildingOf written bufferAfter
 computed = 0
 
 -- B = 1 is a legal group count.

@@ -33,7 +33,15 @@ use Rattle.tag_index.specs.Answer64.{answer64, foundNumber, buildAnswer, checkA
 
 -- `unfolding computed` opens every definition that these compute through.
 computed : ℕ
-unfolding flatten orElse outside answeredBy followedBy first metAt isSome met inOrder product highPart hashed groupOf multiplier placeOf leading figure valueFrom same field lineAt pairLine tagLine ended bothFields pairOf tagOf within imageHeader groupLine slotLine listHeader listLine occurs distinct placeBy beginning leastFrom least feasible bothPlaces candidates leastSeed taken limitCheck notAbove ascendingCheck malformed lineCount tagCount tagsFrom listedIn readingChecks readingOf upTo linesOf bytesOf imageLength viewOf countIn groupsIn startIn seedIn slotLineIn slotIn endIn faulty candidateIn openingChecks malformedIn groupOfSlot misplaced repeated checkingChecks checkingOf groupChecks lookupChecks atSlot lookupInGroup lookupOf select members startOf choiceOf placeIn numberOf tagNumbered sheetOf seedTaken choicesTaken imageOf buildingChecks earlierChecks buildingOf listFromText buildingFromText imageOfList outputOf printed answer64 foundNumber buildAnswer checkAnswer lookupAnswer
+unfolding flatten orElse outside answeredBy followedBy first metAt isSome met inOrder product highPart hashed
+    groupOf multiplier placeOf leading figure valueFrom same field lineAt pairLine tagLine ended bothFields pairOf tagOf
+    within imageHeader groupLine slotLine listHeader listLine occurs distinct placeBy beginning leastFrom least feasible
+    bothPlaces candidates leastSeed taken limitCheck notAbove ascendingCheck malformed lineCount tagCount tagsFrom
+    listedIn readingChecks readingOf upTo linesOf bytesOf imageLength viewOf countIn groupsIn startIn seedIn slotLineIn
+    slotIn endIn faulty candidateIn openingChecks malformedIn groupOfSlot misplaced repeated checkingChecks checkingOf
+    groupChecks lookupChecks atSlot lookupInGroup lookupOf select members startOf choiceOf placeIn numberOf tagNumbered
+    sheetOf seedTaken choicesTaken imageOf buildingChecks earlierChecks buildingOf listFromText buildingFromText
+    imageOfList outputOf printed answer64 foundNumber buildAnswer checkAnswer lookupAnswer
 computed = 0
 
 -- "    2    9" and the tags 1, 2, 3, each in a line of its own.
@@ -71,7 +79,8 @@ pub whole-checked : checkAnswer output ≡ 0
 unfolding computed
 whole-checked = refl
 
-pub whole-looked : (lookupOf output 1 ≡ answered (number 1)) × (lookupOf output 2 ≡ answered (number 0)) × (lookupOf output 3 ≡ answered (number 2)) × (lookupAnswer output 4 ≡ 4294967295)
+pub whole-looked : (lookupOf output 1 ≡ answered (number 1)) × (lookupOf output 2 ≡ answered (number 0))
+    × (lookupOf output 3 ≡ answered (number 2)) × (lookupAnswer output 4 ≡ 4294967295)
 unfolding computed
 whole-looked = (refl, refl, refl, refl)
 

@@ -27,7 +27,10 @@ use Rattle.claim.proofs.worked.number_of_one.Statement.{statement}
 use Rattle.claim.proofs.worked.number_of_one.Tie as tie
 
 computed : claimOf (1 ∷ 2 ∷ []) 1 1 44 1 ≡ answered (number 1)
-unfolding orElse outside followedBy first metAt isSome met inOrder product highPart hashed groupOf multiplier placeOf occurs placeBy beginning leastFrom least feasible choiceNumber bothPlaces candidates leastSeed taken limitCheck notAbove ascendingCheck imageLength select members startOf choiceOf placeIn numberOf seedTaken choicesTaken buildingChecks earlierChecks buildingOf foundIn claimOf
+unfolding orElse outside followedBy first metAt isSome met inOrder product highPart hashed groupOf multiplier
+    placeOf occurs placeBy beginning leastFrom least feasible choiceNumber bothPlaces candidates leastSeed taken
+    limitCheck notAbove ascendingCheck imageLength select members startOf choiceOf placeIn numberOf seedTaken
+    choicesTaken buildingChecks earlierChecks buildingOf foundIn claimOf
 computed = refl
 
 same : {j : ℕ} → answered (number j) ≡ answered (number 1) → j ≡ 1
