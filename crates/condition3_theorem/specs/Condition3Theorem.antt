@@ -90,9 +90,11 @@ module _ (tags : List ℕ) (groups limit : ℕ) where
         (pass-more (met-false (le-ltb tagsMax (length tags) (h .count-legal)))
         (pass-more (check-of-ascending tags (h .ascending))
         (pass-more (met-false (le-ltb room (lineLength * (1 + groups + length tags)) (h .fits)))
-        (pass-more
-            (first-out (tooLarge groups tags) groups (λ g lt. le-ltb groupMax (length (members groups g tags)) (h .groups-small g lt)))
+        (pass-more (first-out (tooLarge groups tags) groups small)
         tt)))))
+      where
+        small : (g : ℕ) → g < groups → tooLarge groups tags g ≡ false
+        small g lt = le-ltb groupMax (length (members groups g tags)) (h .groups-small g lt)
 
     earlier-of-pass : Pass earlier → EarlierChecks tags groups limit room
     unfolding earlierChecks limitCheck ascendingCheck imageLength
@@ -218,7 +220,8 @@ built-checked tags groups limit room words e =
 
 -- The buffer's first bytes after an accepted building are the image.
 pub image-written : (tags : List ℕ) (groups limit : ℕ) (before : List ℕ) (size : ℕ)
-    → buildingOf tags groups limit (length before) ≡ answered size → imageLength groups (length tags) ≡ size → take size (bufferAfter tags groups limit before) ≡ imageOf groups tags limit
+    → buildingOf tags groups limit (length before) ≡ answered size → imageLength groups (length tags) ≡ size
+    → take size (bufferAfter tags groups limit before) ≡ imageOf groups tags limit
 unfolding bufferAfter written
 image-written tags groups limit before size e same =
     let image = imageOf groups tags limit in
