@@ -60,22 +60,30 @@ module _ {tags : List ℕ} {groups limit room : ℕ} (a : Admitted tags groups l
   pub building-large : {g : ℕ} → first (tooLarge groups tags) groups ≡ some g → buildingOf tags groups limit room ≡ refused 10 g
   unfolding buildingOf buildingChecks earlierChecks limitCheck ascendingCheck inOrder met metAt
   building-large e =
-      rw (a .groups-legal, a .limit-legal, le-ltb tagsMax (length tags) (a .count-legal), a .ascending, le-ltb room (imageLength groups (length tags)) (a .fits), e)
+      let few = le-ltb tagsMax (length tags) (a .count-legal) in
+      let roomy = le-ltb room (imageLength groups (length tags)) (a .fits) in
+      rw (a .groups-legal, a .limit-legal, few, a .ascending, roomy, e)
 
   module _ (small : first (tooLarge groups tags) groups ≡ none) where
     pub building-seedless : {g : ℕ} → first (seedless groups tags limit) groups ≡ some g → buildingOf tags groups limit room ≡ refused 7 g
     unfolding buildingOf buildingChecks earlierChecks limitCheck ascendingCheck inOrder met metAt
     building-seedless e =
-        rw (a .groups-legal, a .limit-legal, le-ltb tagsMax (length tags) (a .count-legal), a .ascending, le-ltb room (imageLength groups (length tags)) (a .fits), small, e)
+        let few = le-ltb tagsMax (length tags) (a .count-legal) in
+        let roomy = le-ltb room (imageLength groups (length tags)) (a .fits) in
+        rw (a .groups-legal, a .limit-legal, few, a .ascending, roomy, small, e)
 
-    pub building-answered : first (seedless groups tags limit) groups ≡ none → buildingOf tags groups limit room ≡ answered (imageLength groups (length tags))
+    pub building-answered : first (seedless groups tags limit) groups ≡ none
+        → buildingOf tags groups limit room ≡ answered (imageLength groups (length tags))
     unfolding buildingOf buildingChecks earlierChecks limitCheck ascendingCheck inOrder met metAt
     building-answered e =
-        rw (a .groups-legal, a .limit-legal, le-ltb tagsMax (length tags) (a .count-legal), a .ascending, le-ltb room (imageLength groups (length tags)) (a .fits), small, e)
+        let few = le-ltb tagsMax (length tags) (a .count-legal) in
+        let roomy = le-ltb room (imageLength groups (length tags)) (a .fits) in
+        rw (a .groups-legal, a .limit-legal, few, a .ascending, roomy, small, e)
 
 -- A refusal leaves the buffer as it was; otherwise the image stands at its beginning.
 module _ (tags : List ℕ) (groups limit : ℕ) (before : List ℕ) where
-  pub buffer-kept : {number place : ℕ} → buildingOf tags groups limit (length before) ≡ refused number place → bufferAfter tags groups limit before ≡ before
+  pub buffer-kept : {number place : ℕ} → buildingOf tags groups limit (length before) ≡ refused number place
+      → bufferAfter tags groups limit before ≡ before
   unfolding bufferAfter written
   buffer-kept e = rw e
 
