@@ -19,6 +19,13 @@ pub const SEED_MAX: u32 = 65535;
 
 pub const TEXT_MAX: usize = 65527;
 
+// How many cells an array has: one for each tag of a list, one for each group, one for each tag of a group.
+pub const TAG_CELLS: usize = TAGS_MAX;
+
+pub const GROUP_CELLS: usize = GROUPS_MAX as usize;
+
+pub const MEMBER_CELLS: usize = GROUP_MAX as usize;
+
 // Why an operation refuses: what is the matter with its input. Document 01 numbers them 1 to 16, in this order.
 pub enum Reason {
     SizeOutOfRange,
