@@ -12,10 +12,9 @@ ghost use Rattle.refusal.specs.Outcome.{refused};
 ghost use Rattle.refusal.specs.Reason.{reasonNumber};
 ghost use Rattle.image.specs.Sheet.{imageLength};
 ghost use Rattle.numbering.specs.Building.{buildingOf, bufferAfter};
-ghost use Rattle.numbering.specs.Admitted.{Admitted};
 ghost use Rattle.condition3.specs.Condition3.{Condition3};
 ghost use Rattle.building.specs.Answer.{buildOutcome};
-ghost use Rattle.building.specs.Arrays.{Buildable};
+ghost use Rattle.building.specs.Arrays.{Admitted, Buildable};
 
 // What building answers: the length of the image, or refused.
 pub enum BuildAnswer {
@@ -61,8 +60,8 @@ fn build_admitted(tags: &[u32], groups: u32, limit: u32, buffer: &mut [u8]) -> B
     ensures answer { λ r. ⌜ buildOutcome r ≡ buildingOf (now (tags .entry)) groups limit (length (now (buffer .entry))) ⌝ }
     ensures bytes { λ _. ⌜ now (buffer .exit) ≡ bufferAfter (now (tags .entry)) groups limit (now (buffer .entry)) ⌝ }
 {
-    let mut ends = [0usize; order::GROUP_CELLS];
-    let mut ordered = [0u32; order::TAG_CELLS];
+    let mut ends = [0usize; refusal::GROUP_CELLS];
+    let mut ordered = [0u32; refusal::TAG_CELLS];
     if let First::At(g) = order::order_by_group(tags, groups, &mut ends, &mut ordered) {
         return refuse(Reason::GroupTooLarge, g);
     }
@@ -112,5 +111,5 @@ fn image_length(groups: u32, count: usize) -> usize
     requires { ⌜ (groups ≤ groupsMax) × (count ≤ tagsMax) ⌝ }
     ensures answer { λ r. ⌜ r ≡ imageLength groups count ⌝ }
 {
-    11 * (1 + groups as usize + count)
+    text::LINE_LENGTH * (1 + groups as usize + count)
 }

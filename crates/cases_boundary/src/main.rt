@@ -57,7 +57,7 @@ fn building() {
 fn long_texts() {
     let mut image = [b'.'; 66];
     let mut longest = [b' '; 65527];
-    number_lines(&mut longest);
+    report::number_lines(&mut longest);
     answer(
         b"5956 tags",
         tag_index::tag_index_build(&longest, &mut image),
@@ -72,21 +72,6 @@ fn long_texts() {
         b"65528 bytes",
         tag_index::tag_index_build(&longer, &mut image),
     );
-}
-
-// Writes a list text over the whole buffer: B = 2, L = 9, and the tags 0, 1, 2, …, one a line, as many lines as there is room for.
-fn number_lines(text: &mut [u8]) {
-    if text.len() < 11 {
-        return;
-    }
-    text::write_pair_line(text, 0, 2, 9);
-    let mut at = 11;
-    let mut tag: u32 = 0;
-    while 11 <= text.len() - at {
-        text::write_tag_line(text, at, tag);
-        tag = std::num::wrapping_add_u32(tag, 1);
-        at += 11;
-    }
 }
 
 // The image of the whole case, and damaged ones: 11, 12, 13, 14 and 15.

@@ -14,14 +14,14 @@ fn show(name: &[u8], count: usize, out: &[u8]) {
 }
 
 fn print(name: &[u8], text: &[u8]) {
-    let mut out = [b'.'; 50699];
+    let mut out = [b'.'; printing::LONGEST_IMAGE];
     let count = printing::print_index(text, &mut out);
     show(name, count, &out);
 }
 
 // The whole case, in an output that is one byte shorter than the longest image.
 fn print_short() {
-    let mut out = [b'.'; 50698];
+    let mut out = [b'.'; printing::LONGEST_IMAGE - 1];
     let count = printing::print_index(
         b"    2    9\n         1\n         2\n         3\n",
         &mut out,

@@ -2,25 +2,14 @@
 use Prim.Native.Nat.{ℕ, _+_, _<_}
 use mathlib.Core.Path.{_≡_}
 use mathlib.Core.Bool.{Bool}
-use mathlib.Core.List.{List, [], _∷_}
+use mathlib.Core.List.{List}
 use mathlib.Core.Option.{Option, Option·getD}
 use lib.ListN.{length, getD}
 use Rattle.refusal.specs.Limits.{tagsMax, groupsMax}
 use Rattle.refusal.specs.Outcome.{Outcome, answered, refused}
-use Rattle.lists.specs.First.{first}
-use Rattle.refusal.specs.Checks.{Check}
-use Rattle.image.specs.View.{View, countIn, groupsIn, startIn, seedIn, endIn, slotIn, faulty}
-use Rattle.image.specs.Checking.{misplaced, repeated}
+use Rattle.image.specs.View.{View, startIn, seedIn, slotIn, faulty}
 use Rattle.slots.specs.declared.SlotFault.{SlotFault}
 use Rattle.slots.specs.declared.SlotFault.the-variants.{Misplaced, Repeated, Nowhere}
-
--- The checks that go by the numbers which the lines state: the last three of checking.
-unfoldable pub numberChecks : View → List Check
-numberChecks v =
-    (13, first (λ g. faulty g (startIn v g) (endIn v g)) (groupsIn v))
-    ∷ (14, first (misplaced v) (countIn v))
-    ∷ (15, first (repeated v) (countIn v))
-    ∷ []
 
 -- Group g is faulty, by the cells of the starts.
 abbrev pub faultyAt : List ℕ → ℕ → Bool

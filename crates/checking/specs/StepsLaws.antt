@@ -22,7 +22,7 @@ use Rattle.text.specs.LineLaws.{group-only}
 use Rattle.text.specs.TagLines.{tagIn, noTagFrom, passed, tagsStored}
 use Rattle.text.specs.TagLinesLaws.{tag-slot, line-before, line-at, stored-length, stored-holds}
 use Rattle.image.specs.View.{View, viewOf, groupsIn, startIn, seedIn, endIn, slotLineIn, slotIn, faulty}
-use Rattle.image.specs.Checking.{openingChecks, malformedIn, misplaced, repeated, checkingChecks, checkingOf}
+use Rattle.image.specs.Checking.{openingChecks, malformedIn, misplaced, repeated, numberChecks, checkingChecks, checkingOf}
 use Rattle.image.specs.FaultLaws.{fair-of-faulty}
 use Rattle.image.specs.SameNumbersLaws.{SameNumbers, same-faulty, same-misplaced, same-repeated}
 use Rattle.opening.specs.Opening.{openingOf, Opens}
@@ -30,7 +30,7 @@ use Rattle.opening.specs.OpeningLaws.{opening-refused, opening-passes, opening-
 use Rattle.slots.specs.Cells.{cellsView, Legal, Regular}
 use Rattle.slots.specs.CellsLaws.{cells-count, cells-groups, cells-start, cells-seed, cells-slot, cells-end}
 use Rattle.slots.specs.Fault.{faultOf, faultBefore}
-use Rattle.checking.specs.Steps.{numberChecks, faultyAt, linesBefore, Filled, GroupsStored, TagsStored, faultOutcome}
+use Rattle.checking.specs.Steps.{faultyAt, linesBefore, Filled, GroupsStored, TagsStored, faultOutcome}
 
 -- One cell more is filled.
 pub filled-none : (number : ℕ → ℕ) (from size : ℕ) (cells : List ℕ) → length cells ≡ size → Filled number from from size cells
@@ -230,7 +230,7 @@ module _ (image : List ℕ) {count groups : ℕ} (opened : openingOf image ≡ a
 
   lines-passed : first (malformedIn (viewOf image)) (1 + groups + count) ≡ none
       → checkingOf image ≡ inOrder (numberChecks (viewOf image)) (answered 0)
-  unfolding checkingOf checkingChecks inOrder numberChecks
+  unfolding checkingOf checkingChecks inOrder
   lines-passed e =
       inOrder-append (openingChecks (viewOf image)) _ _ ∙ opening-passes image opened _ ∙ rw (opens .groups-is, opens .count-is, e)
 

@@ -1,12 +1,12 @@
 // The operation "checking": whether an image is one that lookup may trust, for any bytes.
 use opening::Opened;
 use refusal::First;
+use refusal::GROUP_CELLS;
 use refusal::Reason;
 use refusal::Refusal;
-use slots::SEED_CELLS;
+use refusal::TAG_CELLS;
 use slots::START_CELLS;
 use slots::SlotFault;
-use slots::TAG_CELLS;
 use text::LINE_LENGTH;
 use text::Pair;
 ghost use mathlib.Core.Path.{_≡_};
@@ -20,11 +20,11 @@ ghost use Rattle.lists.specs.First.{first};
 ghost use Rattle.refusal.specs.Answer.{firstMeaning};
 ghost use Rattle.refusal.specs.Checks.{inOrder};
 ghost use Rattle.image.specs.View.{viewOf};
-ghost use Rattle.image.specs.Checking.{malformedIn, checkingOf};
+ghost use Rattle.image.specs.Checking.{malformedIn, numberChecks, checkingOf};
 ghost use Rattle.opening.specs.Opening.{openingOf, Opens};
 ghost use Rattle.slots.specs.Cells.{cellsView, Legal};
 ghost use Rattle.checking.specs.Answer.{checkOutcome};
-ghost use Rattle.checking.specs.Steps.{numberChecks, faultyAt, linesBefore, GroupsStored, TagsStored};
+ghost use Rattle.checking.specs.Steps.{faultyAt, linesBefore, GroupsStored, TagsStored};
 
 // What checking answers: accepted, or refused.
 pub enum CheckAnswer {
@@ -48,7 +48,7 @@ fn check_opened(image: &[u8], count: u32, groups: u32) -> CheckAnswer
     ensures answer { λ r. ⌜ checkOutcome r ≡ checkingOf (now (image .entry)) ⌝ }
 {
     let mut starts = [0u32; START_CELLS];
-    let mut seeds = [0u32; SEED_CELLS];
+    let mut seeds = [0u32; GROUP_CELLS];
     let mut tags = [0u32; TAG_CELLS];
     if let First::At(k) = read_group_lines(image, count, groups, &mut starts, &mut seeds) {
         return refused(Reason::MalformedLine, k);
@@ -73,7 +73,7 @@ fn read_group_lines(
     count: u32,
     groups: u32,
     starts: &mut [u32; START_CELLS],
-    seeds: &mut [u32; SEED_CELLS],
+    seeds: &mut [u32; GROUP_CELLS],
 ) -> First
     requires { ⌜ Opens (now image) count groups ⌝ }
     requires { ⌜ (length (now starts) ≡ groupsMax + 1) × (length (now seeds) ≡ groupsMax) ⌝ }
@@ -110,7 +110,7 @@ fn read_slot_lines(image: &[u8], count: u32, groups: u32, tags: &mut [u32; TAG_C
 // The checks behind those of the lines, over the numbers that the lines state: 13, 14 and 15.
 fn check_cells(
     starts: &[u32; START_CELLS],
-    seeds: &[u32; SEED_CELLS],
+    seeds: &[u32; GROUP_CELLS],
     tags: &[u32; TAG_CELLS],
     groups: u32,
 ) -> CheckAnswer

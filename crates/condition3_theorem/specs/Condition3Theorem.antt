@@ -14,8 +14,8 @@ use Rattle.refusal.specs.LimitsLaws.{outside-not, inside}
 use Rattle.refusal.specs.Outcome.{answered, refused}
 use Rattle.lists.specs.First.{first, isSome}
 use Rattle.lists.specs.FirstLaws.{first-some, first-none, first-found, first-out, none-of-isSome}
-use Rattle.refusal.specs.Checks.{Check, met, inOrder, Pass}
-use Rattle.refusal.specs.ChecksLaws.{met-false, false-of-met, Met, passed, pass-more, pass-split, met-behind, inOrder-pass, inOrder-answered, inOrder-refused, inOrder-append}
+use Rattle.refusal.specs.Checks.{Check, met, Pass}
+use Rattle.refusal.specs.ChecksLaws.{_then_, met-false, false-of-met, Met, passed, pass-split, met-behind, inOrder-pass, inOrder-answered, inOrder-refused}
 use Rattle.text.specs.Line.{lineLength}
 use Rattle.lists.specs.Occurs.{occurs}
 use Rattle.group.specs.Group.{leastSeed, taken}
@@ -33,7 +33,7 @@ use Rattle.numbering.specs.MembersLaws.{start-all, start-before}
 use Rattle.numbering.specs.Number.{numberOf, tagNumbered}
 use Rattle.numbering.specs.NumberLaws.{number-below, number-apart, number-onto, AllFill, all-placed, tagNumbered-is}
 use Rattle.numbering.specs.Building.{sheetOf, seedTaken, choicesTaken, imageOf, tooLarge, seedless, earlierChecks, buildingChecks, buildingOf, written, bufferAfter}
-use Rattle.numbering.specs.BuildingLaws.{image-length, seed-least, taken-fill}
+use Rattle.numbering.specs.BuildingLaws.{image-length, building-seedless, building-answered, seed-least, taken-fill}
 use Rattle.condition3_theorem.specs.BuiltLaws.{Reads, InRange, reads-back, built-sound, built-listed, built-unlisted}
 use Rattle.condition3.specs.Condition3.{NothingFills, HasSeed, LowestWithout, EarlierChecks, Accepted, Condition3}
 
@@ -81,22 +81,22 @@ module _ (tags : List ℕ) (groups limit : ℕ) where
     abbrev earlier : List Check
     earlier = earlierChecks tags groups limit room
 
-    -- The checks before 7 pass exactly where the conditions on the inputs hold.
+    -- The checks before 7 pass exactly where the conditions on the inputs hold: one line for each, in their order.
     pass-of-earlier : EarlierChecks tags groups limit room → Pass earlier
     unfolding earlierChecks limitCheck imageLength
     pass-of-earlier h =
-        pass-more (met-false (outside-not 1 groupsMax groups (h .groups-legal .0) (h .groups-legal .1)))
-        (pass-more (met-false (outside-not 1 limitMax limit (h .limit-legal .0) (h .limit-legal .1)))
-        (pass-more (met-false (le-ltb tagsMax (length tags) (h .count-legal)))
-        (pass-more (check-of-ascending tags (h .ascending))
-        (pass-more (met-false (le-ltb room (lineLength * (1 + groups + length tags)) (h .fits)))
-        (pass-more (first-out (tooLarge groups tags) groups small)
-        tt)))))
+        met-false (outside-not 1 groupsMax groups (h .groups-legal .0) (h .groups-legal .1))
+        then met-false (outside-not 1 limitMax limit (h .limit-legal .0) (h .limit-legal .1))
+        then met-false (le-ltb tagsMax (length tags) (h .count-legal))
+        then check-of-ascending tags (h .ascending)
+        then met-false (le-ltb room (lineLength * (1 + groups + length tags)) (h .fits))
+        then first-out (tooLarge groups tags) groups small
+        then tt
       where
         small : (g : ℕ) → g < groups → tooLarge groups tags g ≡ false
         small g lt = le-ltb groupMax (length (members groups g tags)) (h .groups-small g lt)
 
-    earlier-of-pass : Pass earlier → EarlierChecks tags groups limit room
+    pub earlier-of-pass : Pass earlier → EarlierChecks tags groups limit room
     unfolding earlierChecks limitCheck ascendingCheck imageLength
     earlier-of-pass h = record {
       groups-legal = inside 1 groupsMax groups (false-of-met _ (passed earlier h 8));
@@ -109,26 +109,18 @@ module _ (tags : List ℕ) (groups limit : ℕ) where
           ltb-false groupMax (length (members groups g tags)) small;
     }
 
-    -- Where they pass, 7 decides.
-    seven-decides : EarlierChecks tags groups limit room
-        → buildingOf tags groups limit room
-        ≡ inOrder ((7, first (seedless groups tags limit) groups) ∷ []) (answered (imageLength groups (length tags)))
-    unfolding buildingOf buildingChecks
-    seven-decides h = inOrder-append earlier _ _ ∙ inOrder-pass earlier _ (pass-of-earlier h)
-
     refused-of-lowest : EarlierChecks tags groups limit room → (g : ℕ) → LowestWithout groups tags limit g
         → buildingOf tags groups limit room ≡ refused 7 g
-    unfolding inOrder
-    refused-of-lowest h g low = seven-decides h ∙ rw (first-of-lowest g low)
+    refused-of-lowest h g low = building-seedless tags groups limit room (pass-of-earlier h) (first-of-lowest g low)
 
     answered-of-none : EarlierChecks tags groups limit room → ((g : ℕ) → LowestWithout groups tags limit g → ⊥)
         → buildingOf tags groups limit room ≡ answered (11 * (1 + groups + length tags))
-    unfolding inOrder imageLength
-    answered-of-none h never = seven-decides h ∙ go (first (seedless groups tags limit) groups) refl
+    unfolding imageLength
+    answered-of-none h never = go (first (seedless groups tags limit) groups) refl
       where
         go : (o : Option ℕ) → first (seedless groups tags limit) groups ≡ o
-            → inOrder ((7, o) ∷ []) (answered (imageLength groups (length tags))) ≡ answered (11 * (1 + groups + length tags))
-        go none e = refl
+            → buildingOf tags groups limit room ≡ answered (11 * (1 + groups + length tags))
+        go none e = building-answered tags groups limit room (pass-of-earlier h) e
         go (some g) e = absurd (never g (lowest-of-first g e))
 
     -- A refusal 7 comes from the last check, since no earlier one has its number.
@@ -162,7 +154,7 @@ module _ (tags : List ℕ) (groups limit : ℕ) where
       sheet = sheetOf groups tags (seedTaken groups tags limit) (choicesTaken groups tags limit)
 
       all-fill : AllFill groups tags (seedTaken groups tags limit) (choicesTaken groups tags limit)
-      all-fill = taken-fill groups tags limit (h .groups-legal .0) (check-of-ascending tags (h .ascending)) every
+      all-fill = taken-fill groups tags limit (h .groups-legal .0) (h .ascending) every
 
       in-range : InRange sheet
       unfolding sheetOf numberOf

@@ -21,7 +21,7 @@ pub fn build_from_text(text: &[u8], buffer: &mut [u8]) -> BuildAnswer
             place: 0,
         });
     }
-    let mut cells = [0u32; 4096];
+    let mut cells = [0u32; refusal::TAG_CELLS];
     match list::read_list(text, &mut cells) {
         ListAnswer::Listed(groups, limit, count) => {
             building::build(&cells[..count], groups, limit, buffer)

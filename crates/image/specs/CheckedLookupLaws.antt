@@ -15,13 +15,13 @@ use Rattle.refusal.specs.Outcome.{Outcome, answered}
 use Rattle.lists.specs.First.{first, metAt, isSome}
 use Rattle.lists.specs.FirstLaws.{first-none, first-out, some-of-isSome, none-of-isSome}
 use Rattle.refusal.specs.Checks.{inOrder, Pass}
-use Rattle.refusal.specs.ChecksLaws.{metAt-false, false-of-met, inOrder-pass, inOrder-answered, inOrder-append}
+use Rattle.refusal.specs.ChecksLaws.{_then_, metAt-false, false-of-met, passed, pass-append, pass-split, inOrder-pass, inOrder-answered, inOrder-append}
 use Rattle.hash.specs.FormulaLaws.{group-below, place-below}
 use Rattle.text.specs.Line.{lineAt, imageHeader}
 use Rattle.text.specs.LineLaws.{image-header-only}
 use Rattle.image.specs.View.{View, viewOf, countIn, groupsIn, startIn, seedIn, endIn, slotLineIn, slotIn, faulty, candidateIn}
 use Rattle.image.specs.Holds.{HoldsTag, SlotHolds}
-use Rattle.image.specs.Checking.{openingChecks, malformedIn, groupOfSlot, misplaced, repeated, checkingChecks, checkingOf}
+use Rattle.image.specs.Checking.{openingChecks, malformedIn, groupOfSlot, misplaced, repeated, numberChecks, checkingChecks, checkingOf}
 use Rattle.image.specs.Lookup.{Found, number, unknown, groupChecks, lookupChecks, atSlot, lookupInGroup, lookupOf}
 use Rattle.image.specs.LinesRead.{ownGroup, ownSlot}
 use Rattle.image.specs.Fair.{LiesIn, AllFair}
@@ -37,44 +37,41 @@ pub record Sound (v : View) : Type 0 where
   pub once : (j : ℕ) → j < countIn v → repeated v j ≡ false
 
 pub sound-of-pass : (v : View) → Pass (checkingChecks v) → Sound v
-unfolding checkingChecks openingChecks malformedIn slotLineIn
-sound-of-pass v (short, (header, (whole, (lines, (groups, (slots, (twins, end))))))) =
+unfolding checkingChecks numberChecks malformedIn slotLineIn
+sound-of-pass v passes =
+    let (opens, (lines, numbers)) = pass-split (openingChecks v) _ passes in
     let well = first-none (malformedIn v) (1 + groupsIn v + countIn v) lines in
     record {
-      opens = (short, (header, (whole, tt)));
+      opens = opens;
       group-lines = λ g lt. not-false (isSome (v .groupAt (suc g))) (rw (lt-ltb g (groupsIn v) lt) at (well (suc g) (omega arith)));
       slot-lines = λ j lt.
           let past : groupsIn v ≤ groupsIn v + j = omega arith in
           let e : 1 + groupsIn v + j ≡ suc (groupsIn v + j) = omega arith in
           rw e (not-false (isSome (v .slotAt (suc (groupsIn v + j))))
           (rw (le-ltb (groupsIn v + j) (groupsIn v) past) at (well (suc (groupsIn v + j)) (omega arith))));
-      not-faulty = first-none (λ g. faulty g (startIn v g) (endIn v g)) (groupsIn v) groups;
-      placed = first-none (misplaced v) (countIn v) slots;
-      once = first-none (repeated v) (countIn v) twins;
+      not-faulty = first-none (λ g. faulty g (startIn v g) (endIn v g)) (groupsIn v) (passed (numberChecks v) numbers 13);
+      placed = first-none (misplaced v) (countIn v) (passed (numberChecks v) numbers 14);
+      once = first-none (repeated v) (countIn v) (passed (numberChecks v) numbers 15);
     }
+
+-- Line 0 of an image that opens is well formed.
+opens-header : (v : View) → Pass (openingChecks v) → isSome (v .header) ≡ true
+unfolding openingChecks
+opens-header v passes = not-false (isSome (v .header)) (false-of-met _ (passed (openingChecks v) passes 12))
 
 -- And such an image is accepted.
 pub pass-of-sound : (v : View) → Sound v → Pass (checkingChecks v)
-unfolding checkingChecks openingChecks malformedIn slotLineIn
-pass-of-sound v s = (
-  s .opens .0,
-  (
-    s .opens .1 .0,
-    (
-      s .opens .1 .1 .0,
-      (
-        first-out (malformedIn v) (1 + groupsIn v + countIn v) well,
-        (
-          first-out (λ g. faulty g (startIn v g) (endIn v g)) (groupsIn v) (s .not-faulty),
-          (first-out (misplaced v) (countIn v) (s .placed), (first-out (repeated v) (countIn v) (s .once), tt)),
-        ),
-      ),
-    ),
-  ),
-)
+unfolding checkingChecks numberChecks malformedIn slotLineIn
+pass-of-sound v s =
+    pass-append (openingChecks v) _ (s .opens)
+    (first-out (malformedIn v) (1 + groupsIn v + countIn v) well
+    then first-out (λ g. faulty g (startIn v g) (endIn v g)) (groupsIn v) (s .not-faulty)
+    then first-out (misplaced v) (countIn v) (s .placed)
+    then first-out (repeated v) (countIn v) (s .once)
+    then tt)
   where
     well : (k : ℕ) → k < 1 + groupsIn v + countIn v → malformedIn v k ≡ false
-    well zero lt = false-of-met (not (isSome (v .header))) (s .opens .1 .0)
+    well zero lt = rw (opens-header v (s .opens))
     well (suc k) lt = go (ltb k (groupsIn v)) refl
       where
         go : (b : Bool) → ltb k (groupsIn v) ≡ b → malformedIn v (suc k) ≡ false
@@ -184,7 +181,7 @@ module _ (v : View) (sound : Sound v) (many : 0 < groupsIn v) where
         rw (sound .not-faulty g own-below, le-ltb (countIn v) (endIn v g) (end-most v fair g own-below)) in
         inOrder-append (openingChecks v) _ o
         ∙ inOrder-pass (openingChecks v) _ (sound .opens)
-        ∙ inOrder-pass _ o (metAt-false (suc g) line, (metAt-false (suc (suc g)) next-line, (metAt-false g group, tt)))
+        ∙ inOrder-pass _ o (metAt-false (suc g) line then metAt-false (suc (suc g)) next-line then metAt-false g group then tt)
 
     -- In a group that is not empty both slots of the tag are slots of the image, and each holds some tag.
     slot-inside : (c : ℕ) → (startIn v (ownGroup v t) ≡ endIn v (ownGroup v t) → ⊥) → ownSlot v c t < countIn v
@@ -267,12 +264,12 @@ pub record LooksUp (image : List ℕ) (t : ℕ) : Type 0 where
   pub misses : (lookupOf image t ≡ answered unknown) ↔ ((j : ℕ) → SlotHolds image j t → ⊥)
 
 pub checked-lookup : (image : List ℕ) {a : ℕ} → checkingOf image ≡ answered a → (t : ℕ) → LooksUp image t
-unfolding checkingOf lookupOf checkingChecks openingChecks
+unfolding checkingOf lookupOf
 checked-lookup image accepted t =
     let v = viewOf image in
     let (pass, e) = inOrder-answered (checkingChecks v) (answered 0) accepted in
     let sound = sound-of-pass v pass in
-    let many = groups-some image (not-false (isSome (v .header)) (false-of-met (not (isSome (v .header))) (pass .1 .0))) in
+    let many = groups-some image (opens-header v (sound .opens)) in
     go sound many (lookup-ends v sound many t)
   where
     go : Sound (viewOf image) → 0 < groupsIn (viewOf image) → Looked (viewOf image) t (lookupOf image t) → LooksUp image t

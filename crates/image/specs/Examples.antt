@@ -12,14 +12,14 @@ use Rattle.text.specs.Field.{valueFrom, same, field}
 use Rattle.text.specs.Line.{lineAt, pairLine, tagLine, ended, bothFields, pairOf, tagOf, within, imageHeader, groupLine, slotLine}
 use Rattle.image.specs.Sheet.{imageLength}
 use Rattle.image.specs.View.{viewOf, countIn, groupsIn, startIn, seedIn, slotLineIn, slotIn, endIn, faulty, candidateIn}
-use Rattle.image.specs.Checking.{openingChecks, malformedIn, groupOfSlot, misplaced, repeated, checkingChecks, checkingOf}
+use Rattle.image.specs.Checking.{openingChecks, malformedIn, groupOfSlot, misplaced, repeated, numberChecks, checkingChecks, checkingOf}
 
 -- `unfolding computed` opens every definition that these compute through.
 computed : ℕ
 unfolding flatten orElse first metAt isSome met inOrder product highPart hashed groupOf multiplier placeOf leading
     figure valueFrom same field lineAt pairLine tagLine ended bothFields pairOf tagOf within imageHeader groupLine
     slotLine imageLength viewOf countIn groupsIn startIn seedIn slotLineIn slotIn endIn faulty candidateIn openingChecks
-    malformedIn groupOfSlot misplaced repeated checkingChecks checkingOf
+    malformedIn groupOfSlot misplaced repeated numberChecks checkingChecks checkingOf
 computed = 0
 
 -- One group of the tags 1 and 1 under seed 0, where both places of tag 1 are 1: slot 0 is misplaced, and slot 1 repeats its tag.

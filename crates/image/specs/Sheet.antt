@@ -1,6 +1,7 @@
 -- The image: its lines and bytes. Assumes nothing.
 use Prim.Native.Nat.{ℕ, _+_, _*_}
 use mathlib.Core.List.{List, _∷_, _++_, flatten}
+use Rattle.refusal.specs.Limits.{tagsMax, groupsMax}
 use Rattle.lists.specs.UpTo.{upTo}
 use Rattle.text.specs.Line.{lineLength, pairLine, tagLine}
 
@@ -34,3 +35,7 @@ bytesOf s = flatten (linesOf s)
 -- "The length is 11 × (1 + B + N), at most 50,699 bytes."
 unfoldable pub imageLength : ℕ → ℕ → ℕ
 imageLength groups count = lineLength * (1 + groups + count)
+
+-- The most: that of 4,096 tags in 512 groups.
+unfoldable pub longestImage : ℕ
+longestImage = imageLength groupsMax tagsMax

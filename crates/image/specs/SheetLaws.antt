@@ -1,5 +1,5 @@
 -- An image's length, and that line k of it is the line that was put there. Assumes nothing.
-use mathlib.Core.Path.{_≡_, _∙_, ap}
+use mathlib.Core.Path.{_≡_, refl, _∙_, ap}
 use mathlib.Core.List.{List, []}
 use mathlib.Core.Option.{some}
 use Prim.Native.Nat.{ℕ, zero, suc, _+_, _*_, _^_, _≤_, _<_}
@@ -11,7 +11,7 @@ use Rattle.text.specs.Line.{lineLength, lineAt, imageHeader, groupLine, slotLin
 use Rattle.lists.specs.UpToLaws.{upTo-length, upTo-at}
 use Rattle.text.specs.LineLaws.{pairLine-length, tagLine-length, Lines, lines-append, flatten-length, line-flatten, image-header-line, group-line, slot-line}
 use Rattle.lists.specs.UpTo.{upTo}
-use Rattle.image.specs.Sheet.{Sheet, headerLineOf, groupLineOf, slotLineOf, linesOf, bytesOf, imageLength}
+use Rattle.image.specs.Sheet.{Sheet, headerLineOf, groupLineOf, slotLineOf, linesOf, bytesOf, imageLength, longestImage}
 
 -- Each line of an image is a line.
 pub upTo-lines : (count : ℕ) (f : ℕ → List ℕ) → ((k : ℕ) → length (f k) ≡ lineLength) → Lines (upTo count f)
@@ -20,9 +20,13 @@ upTo-lines zero f h = tt
 upTo-lines (suc count) f h = (h 0, upTo-lines count (λ k. f (suc k)) (λ k. h (suc k)))
 
 -- "The length is 11 × (1 + B + N), at most 50,699 bytes."
-pub image-longest : (groups count : ℕ) → groups ≤ groupsMax → count ≤ tagsMax → imageLength groups count ≤ 50699
-unfolding imageLength
+pub image-longest : (groups count : ℕ) → groups ≤ groupsMax → count ≤ tagsMax → imageLength groups count ≤ longestImage
+unfolding imageLength longestImage
 image-longest groups count g n = omega arith
+
+pub longest-is : longestImage ≡ 50699
+unfolding imageLength longestImage
+longest-is = refl
 
 module _ (s : Sheet) where
   sheet-lines : Lines (linesOf s)

@@ -2,6 +2,7 @@
 use opening::Opened;
 use refusal::Reason;
 use refusal::Refusal;
+use text::LINE_LENGTH;
 use text::Pair;
 use text::Tag;
 ghost use mathlib.Core.Path.{_≡_};
@@ -67,7 +68,7 @@ fn in_group(image: &[u8], count: u32, groups: u32, tag: u32) -> LookupAnswer
 {
     let g = hash::group_of(groups, tag);
     let line = 1 + g as usize;
-    let Pair::Numbers(start, seed) = text::read_group_line(image, 11 * line) else {
+    let Pair::Numbers(start, seed) = text::read_group_line(image, LINE_LENGTH * line) else {
         return malformed(line);
     };
     let GroupEnd::At(end) = group_end(image, count, groups, g) else {
@@ -92,7 +93,8 @@ fn group_end(image: &[u8], count: u32, groups: u32, g: u32) -> GroupEnd
     if next == groups {
         return GroupEnd::At(count);
     }
-    let Pair::Numbers(start, _) = text::read_group_line(image, 11 * (1 + next as usize)) else {
+    let Pair::Numbers(start, _) = text::read_group_line(image, LINE_LENGTH * (1 + next as usize))
+    else {
         return GroupEnd::Malformed;
     };
     GroupEnd::At(start)
@@ -111,7 +113,7 @@ fn in_slots(image: &[u8], groups: u32, start: u32, end: u32, seed: u32, tag: u32
     for choice in 0..2 {
         let slot = start + hash::place_of(n, seed, choice, tag);
         let line = 1 + groups as usize + slot as usize;
-        let Tag::Number(held) = text::read_slot_line(image, 11 * line) else {
+        let Tag::Number(held) = text::read_slot_line(image, LINE_LENGTH * line) else {
             return malformed(line);
         };
         if held == tag {

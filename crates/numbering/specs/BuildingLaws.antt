@@ -1,29 +1,31 @@
 -- The ways in which building ends, in the order of its checks, and what it leaves in the buffer. Assumes nothing.
-use mathlib.Core.Path.{_≡_}
-use mathlib.Core.Bool.{true, false}
-use mathlib.Core.List.{List, _++_}
+use mathlib.Core.Path.{_≡_, sym, _∙_}
+use mathlib.Core.Bool.{false}
+use mathlib.Core.List.{List, [], _∷_, _++_}
 use mathlib.Core.Option.{none, some}
 use Prim.Native.Nat.{ℕ, _≤_, _<_}
 use native.Mathlib.Omega.{arith}
+use lib.Dec.{ltb}
 use lib.ListN.{length, drop}
-use borrow.Author.Tests.{lt-ltb, le-ltb, ltb-false, not-false}
-use Rattle.refusal.specs.Limits.{tagsMax, groupsMax, limitMax, outside}
+use borrow.Author.Tests.{ltb-false, le-ltb, not-false}
+use Rattle.refusal.specs.Limits.{tagsMax, groupsMax}
 use Rattle.refusal.specs.LimitsLaws.{inside}
 use Rattle.refusal.specs.Outcome.{answered, refused}
-use Rattle.lists.specs.First.{first, metAt, isSome}
+use Rattle.lists.specs.First.{first, isSome}
 use Rattle.lists.specs.FirstLaws.{first-none, some-of-isSome}
-use Rattle.refusal.specs.Checks.{met, inOrder}
-use Rattle.refusal.specs.ChecksLaws.{false-of-met, passed, inOrder-answered}
+use Rattle.refusal.specs.Checks.{Check, inOrder, Pass}
+use Rattle.refusal.specs.ChecksLaws.{met-false, false-of-met, metBy, passed, checksBefore, met-first}
+use Rattle.refusal.specs.ChecksLaws.{inOrder-pass, inOrder-but, inOrder-answered, inOrder-append}
 use Rattle.group.specs.Group.{leastSeed}
 use Rattle.group.specs.GroupLaws.{LeastSeed, leastSeed-some}
-use Rattle.group.specs.Ascending.{limitCheck, ascendingCheck}
-use Rattle.group.specs.AscendingLaws.{ascending-of-check, ascending-distinct}
-use Rattle.image.specs.Sheet.{imageLength}
+use Rattle.group.specs.Ascending.{limitCheck, ascendingCheck, Ascending}
+use Rattle.group.specs.AscendingLaws.{ascending-distinct}
+use Rattle.image.specs.Sheet.{imageLength, longestImage}
 use Rattle.image.specs.SheetLaws.{bytes-length, image-longest}
 use Rattle.numbering.specs.Members.{members}
 use Rattle.numbering.specs.NumberLaws.{AllFill}
-use Rattle.numbering.specs.Admitted.{Admitted}
-use Rattle.numbering.specs.Building.{sheetOf, seedTaken, choicesTaken, imageOf, tooLarge, seedless, earlierChecks, buildingChecks, buildingOf, written, bufferAfter}
+use Rattle.numbering.specs.Building.{sheetOf, seedTaken, choicesTaken, imageOf, seedless, earlierChecks}
+use Rattle.numbering.specs.Building.{buildingChecks, buildingOf, written, bufferAfter}
 
 -- The image that building writes has the length that building answers.
 pub image-length : (groups : ℕ) (tags : List ℕ) (limit : ℕ) → length (imageOf groups tags limit) ≡ imageLength groups (length tags)
@@ -31,54 +33,31 @@ unfolding imageOf sheetOf
 image-length groups tags limit = bytes-length (sheetOf groups tags (seedTaken groups tags limit) (choicesTaken groups tags limit))
 
 module _ (tags : List ℕ) (groups limit room : ℕ) where
-  pub building-groups : outside 1 groupsMax groups ≡ true → buildingOf tags groups limit room ≡ refused 8 0
-  unfolding buildingOf buildingChecks earlierChecks inOrder met metAt
-  building-groups e = rw e
+  abbrev earlier : List Check
+  earlier = earlierChecks tags groups limit room
 
-  module _ (some-groups : outside 1 groupsMax groups ≡ false) where
-    pub building-limit : outside 1 limitMax limit ≡ true → buildingOf tags groups limit room ≡ refused 4 0
-    unfolding buildingOf buildingChecks earlierChecks limitCheck inOrder met metAt
-    building-limit e = rw (some-groups, e)
+  -- A check before 7 that is met where those before it pass is building's refusal.
+  pub building-refused : (number : ℕ) {place : ℕ} → Pass (checksBefore number earlier) → metBy earlier number ≡ some place
+      → buildingOf tags groups limit room ≡ refused number place
+  unfolding buildingOf buildingChecks
+  building-refused number passes e = inOrder-append earlier _ _ ∙ met-first earlier _ number passes e
 
-    module _ (legal : outside 1 limitMax limit ≡ false) where
-      pub building-many : tagsMax < length tags → buildingOf tags groups limit room ≡ refused 5 0
-      unfolding buildingOf buildingChecks earlierChecks limitCheck inOrder met metAt
-      building-many many = rw (some-groups, legal, lt-ltb tagsMax (length tags) many)
+  -- Where they pass, 7 decides.
+  pub seven-decides : Pass earlier
+      → buildingOf tags groups limit room
+      ≡ inOrder ((7, first (seedless groups tags limit) groups) ∷ []) (answered (imageLength groups (length tags)))
+  unfolding buildingOf buildingChecks
+  seven-decides passes = inOrder-append earlier _ _ ∙ inOrder-pass earlier _ passes
 
-      module _ (few : length tags ≤ tagsMax) where
-        pub building-descends : {i : ℕ} → ascendingCheck tags .1 ≡ some i → buildingOf tags groups limit room ≡ refused 6 i
-        unfolding buildingOf buildingChecks earlierChecks limitCheck ascendingCheck inOrder met metAt
-        building-descends e = rw (some-groups, legal, le-ltb tagsMax (length tags) few, e)
-
-        module _ (up : ascendingCheck tags .1 ≡ none) where
-          pub building-short : room < imageLength groups (length tags) → buildingOf tags groups limit room ≡ refused 9 0
-          unfolding buildingOf buildingChecks earlierChecks limitCheck ascendingCheck inOrder met metAt
-          building-short short =
-              rw (some-groups, legal, le-ltb tagsMax (length tags) few, up, lt-ltb room (imageLength groups (length tags)) short)
-
-module _ {tags : List ℕ} {groups limit room : ℕ} (a : Admitted tags groups limit room) where
-  pub building-large : {g : ℕ} → first (tooLarge groups tags) groups ≡ some g → buildingOf tags groups limit room ≡ refused 10 g
-  unfolding buildingOf buildingChecks earlierChecks limitCheck ascendingCheck inOrder met metAt
-  building-large e =
-      let few = le-ltb tagsMax (length tags) (a .count-legal) in
-      let roomy = le-ltb room (imageLength groups (length tags)) (a .fits) in
-      rw (a .groups-legal, a .limit-legal, few, a .ascending, roomy, e)
-
-  module _ (small : first (tooLarge groups tags) groups ≡ none) where
+  module _ (passes : Pass earlier) where
     pub building-seedless : {g : ℕ} → first (seedless groups tags limit) groups ≡ some g → buildingOf tags groups limit room ≡ refused 7 g
-    unfolding buildingOf buildingChecks earlierChecks limitCheck ascendingCheck inOrder met metAt
-    building-seedless e =
-        let few = le-ltb tagsMax (length tags) (a .count-legal) in
-        let roomy = le-ltb room (imageLength groups (length tags)) (a .fits) in
-        rw (a .groups-legal, a .limit-legal, few, a .ascending, roomy, small, e)
+    unfolding inOrder
+    building-seedless e = seven-decides passes ∙ rw e
 
     pub building-answered : first (seedless groups tags limit) groups ≡ none
         → buildingOf tags groups limit room ≡ answered (imageLength groups (length tags))
-    unfolding buildingOf buildingChecks earlierChecks limitCheck ascendingCheck inOrder met metAt
-    building-answered e =
-        let few = le-ltb tagsMax (length tags) (a .count-legal) in
-        let roomy = le-ltb room (imageLength groups (length tags)) (a .fits) in
-        rw (a .groups-legal, a .limit-legal, few, a .ascending, roomy, small, e)
+    unfolding inOrder
+    building-answered e = seven-decides passes ∙ rw e
 
 -- A refusal leaves the buffer as it was; otherwise the image stands at its beginning.
 module _ (tags : List ℕ) (groups limit : ℕ) (before : List ℕ) where
@@ -102,12 +81,12 @@ module _ (groups : ℕ) (tags : List ℕ) (limit : ℕ) where
       rw found (leastSeed-some own limit found)
 
   -- Where every group has one, the sequences taken fill.
-  pub taken-fill : 0 < groups → ascendingCheck tags .1 ≡ none → first (seedless groups tags limit) groups ≡ none
+  pub taken-fill : 0 < groups → Ascending tags → first (seedless groups tags limit) groups ≡ none
       → AllFill groups tags (seedTaken groups tags limit) (choicesTaken groups tags limit)
   unfolding choicesTaken
   taken-fill some-group up every = record {
     some-group = some-group;
-    differ = ascending-distinct tags (ascending-of-check tags up);
+    differ = ascending-distinct tags up;
     fills = λ g lt. (seed-least g (first-none (seedless groups tags limit) groups every g lt)) .fills;
   }
 
@@ -121,11 +100,28 @@ answered-size tags groups limit room e =
 
 -- It is that of an image of at most 4,096 tags in at most 512 groups.
 pub answered-most : (tags : List ℕ) (groups limit room : ℕ) {size : ℕ} → buildingOf tags groups limit room ≡ answered size
-    → size ≤ 50699
+    → size ≤ longestImage
 unfolding buildingOf buildingChecks earlierChecks limitCheck ascendingCheck
 answered-most tags groups limit room e =
     let checks = buildingChecks tags groups limit room in
     let (passes, told) = inOrder-answered checks (answered (imageLength groups (length tags))) e in
     let legal = inside 1 groupsMax groups (false-of-met _ (passed checks passes 8)) in
     let few = ltb-false tagsMax (length tags) (false-of-met _ (passed checks passes 5)) in
-    omega (arith, image-longest groups (length tags) (legal .1) few, answered-size tags groups limit room e)
+    rw (answered-size tags groups limit room e) (image-longest groups (length tags) (legal .1) few)
+
+-- In every buffer that is long enough for the longest image building comes to the same: 9 never comes.
+pub building-roomy : (tags : List ℕ) (groups limit room : ℕ) → longestImage ≤ room
+    → buildingOf tags groups limit room ≡ buildingOf tags groups limit longestImage
+unfolding buildingOf buildingChecks earlierChecks limitCheck ascendingCheck
+building-roomy tags groups limit room enough =
+    inOrder-but front 9 _ _
+    (λ passes. met-false (fits passes room enough) ∙ sym (met-false (fits passes longestImage (omega arith))))
+  where
+    front : List Check
+    front = checksBefore 9 (earlierChecks tags groups limit room)
+
+    fits : Pass front → (space : ℕ) → longestImage ≤ space → ltb space (imageLength groups (length tags)) ≡ false
+    fits passes space wide =
+        let legal = inside 1 groupsMax groups (false-of-met _ (passed front passes 8)) in
+        let few = ltb-false tagsMax (length tags) (false-of-met _ (passed front passes 5)) in
+        le-ltb space (imageLength groups (length tags)) (omega (arith, image-longest groups (length tags) (legal .1) few))

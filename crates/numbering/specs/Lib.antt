@@ -6,6 +6,6 @@ pub mod Parts
 pub mod GroupSlots
 pub mod SlotsLaws
 pub mod Building
-pub mod Admitted
 pub mod BuildingLaws
+pub mod Examples
 pub mod FromText

@@ -1,6 +1,7 @@
 // How checking and lookup begin: the image's length and line 0; and when a group is faulty.
 use refusal::Reason;
 use refusal::Refusal;
+use text::LINE_LENGTH;
 use text::Pair;
 ghost use mathlib.Core.Path.{_≡_};
 ghost use Rattle.image.specs.View.{faulty};
@@ -17,14 +18,14 @@ pub enum Opened {
 pub fn open(image: &[u8]) -> Opened
     ensures answer { λ r. ⌜ openedOutcome r ≡ openingOf (now (image .entry)) ⌝ }
 {
-    if 11 <= image.len() {
+    if LINE_LENGTH <= image.len() {
         let Pair::Numbers(count, groups) = text::read_image_header(image, 0) else {
             return Opened::Refused(Refusal {
                 reason: Reason::MalformedLine,
                 place: 0,
             });
         };
-        if image.len() == 11 * (1 + groups + count) as usize {
+        if image.len() == LINE_LENGTH * (1 + groups + count) as usize {
             return Opened::Counts(count, groups);
         }
     }

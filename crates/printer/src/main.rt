@@ -11,8 +11,8 @@ fn write_first(out: &[u8], count: usize) {
 
 fn main() {
     // One byte more than a list text may have: enough to know that an input is longer.
-    let mut text = [0u8; 65528];
-    let mut out = [0u8; 50699];
+    let mut text = [0u8; refusal::TEXT_MAX + 1];
+    let mut out = [0u8; printing::LONGEST_IMAGE];
     let length = io::read_full(STDIN_FILENO, &mut text);
     let count = printing::print_index(&text[..length], &mut out);
     write_first(&out, count);

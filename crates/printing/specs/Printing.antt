@@ -4,11 +4,10 @@ use mathlib.Core.Bool.{cond}
 use mathlib.Core.List.{List, _++_}
 use lib.Dec.{ltb}
 use lib.ListN.{length, drop}
-use Rattle.refusal.specs.Limits.{tagsMax, groupsMax}
 use Rattle.refusal.specs.Outcome.{Outcome, answered, refused, answeredBy, followedBy}
 use Rattle.text.specs.Line.{pairLine}
 use Rattle.list.specs.Reading.{Listed}
-use Rattle.image.specs.Sheet.{imageLength}
+use Rattle.image.specs.Sheet.{longestImage}
 use Rattle.numbering.specs.Building.{buildingOf, imageOf}
 use Rattle.numbering.specs.FromText.{listFromText}
 
@@ -16,7 +15,7 @@ use Rattle.numbering.specs.FromText.{listFromText}
 unfoldable pub imageOfList : Listed → Outcome (List ℕ)
 imageOfList listed =
     answeredBy (λ size. imageOf (listed .groups) (listed .tags) (listed .limit))
-    (buildingOf (listed .tags) (listed .groups) (listed .limit) (imageLength groupsMax tagsMax))
+    (buildingOf (listed .tags) (listed .groups) (listed .limit) longestImage)
 
 -- "It writes the image with B and L as given, or one line with the refusal number and the place in five columns each."
 unfoldable pub outputOf : Outcome (List ℕ) → List ℕ
@@ -27,10 +26,6 @@ outputOf (refused number place) = pairLine number place
 -- place 0, unexamined."
 unfoldable pub printed : List ℕ → List ℕ
 printed text = outputOf (followedBy (listFromText text) imageOfList)
-
--- "The length is … at most 50,699 bytes": that of 4,096 tags in 512 groups.
-unfoldable pub longestImage : ℕ
-longestImage = imageLength groupsMax tagsMax
 
 -- What is written at the beginning of an output of `room` bytes, and how many bytes. An output that is shorter than the longest image
 -- gets nothing.

@@ -1,51 +1,20 @@
 -- What the printer writes, from what building from the text answers and leaves in an output that is long enough for every image.
 -- Assumes nothing.
 use mathlib.Core.Path.{_≡_, refl, sym, _∙_, ap}
-use mathlib.Core.Bool.{Bool, true, false}
 use mathlib.Core.List.{List, _++_}
 use Prim.Native.Nat.{ℕ, _≤_, _<_}
 use native.Mathlib.Omega.{arith}
-use lib.Dec.{ltb}
 use lib.ListN.{length, drop}
-use borrow.Author.Tests.{ltb-true, ltb-false, lt-ltb, le-ltb}
-use Rattle.refusal.specs.Limits.{tagsMax, groupsMax, limitMax, outside}
-use Rattle.refusal.specs.LimitsLaws.{inside}
+use borrow.Author.Tests.{lt-ltb, le-ltb}
 use Rattle.refusal.specs.Outcome.{Outcome, answered, refused, answeredBy, followedBy}
 use Rattle.text.specs.Line.{lineLength, pairLine}
 use Rattle.text.specs.LineLaws.{pairLine-length}
 use Rattle.list.specs.Reading.{Listed}
-use Rattle.image.specs.Sheet.{imageLength}
-use Rattle.image.specs.SheetLaws.{image-longest}
-use Rattle.numbering.specs.Building.{earlierChecks, buildingChecks, buildingOf}
-use Rattle.numbering.specs.BuildingLaws.{image-length, building-groups, building-limit, building-many, buffer-kept, buffer-written, answered-size}
+use Rattle.image.specs.Sheet.{longestImage}
+use Rattle.numbering.specs.Building.{buildingOf}
+use Rattle.numbering.specs.BuildingLaws.{image-length, building-roomy, buffer-kept, buffer-written, answered-size}
 use Rattle.numbering.specs.FromText.{listFromText, buildingFromText, bufferOfList, bufferFromText}
-use Rattle.printing.specs.Printing.{imageOfList, outputOf, printed, longestImage, printedCount, printedInto}
-
--- "at most 50,699 bytes".
-pub longest-is : longestImage ≡ 50699
-unfolding longestImage imageLength
-longest-is = refl
-
--- In every buffer that is long enough for the longest image building comes to the same: 9 never comes.
-pub building-roomy : (tags : List ℕ) (groups limit room : ℕ) → longestImage ≤ room
-    → buildingOf tags groups limit room ≡ buildingOf tags groups limit longestImage
-unfolding buildingOf buildingChecks earlierChecks
-building-roomy tags groups limit room enough =
-    go (outside 1 groupsMax groups) (outside 1 limitMax limit) (ltb tagsMax (length tags)) refl refl refl
-  where
-    go : (b d f : Bool) → outside 1 groupsMax groups ≡ b → outside 1 limitMax limit ≡ d → ltb tagsMax (length tags) ≡ f
-        → buildingOf tags groups limit room ≡ buildingOf tags groups limit longestImage
-    go true d f e e′ e″ = building-groups tags groups limit room e ∙ sym (building-groups tags groups limit longestImage e)
-    go false true f e e′ e″ = building-limit tags groups limit room e e′ ∙ sym (building-limit tags groups limit longestImage e e′)
-    go false false true e e′ e″ =
-        let many = ltb-true tagsMax (length tags) e″ in
-        building-many tags groups limit room e e′ many ∙ sym (building-many tags groups limit longestImage e e′ many)
-    go false false false e e′ e″ =
-        let most = image-longest groups (length tags) ((inside 1 groupsMax groups e) .1) (ltb-false tagsMax (length tags) e″) in
-        rw (
-          le-ltb room (imageLength groups (length tags)) (omega (arith, longest-is)),
-          le-ltb longestImage (imageLength groups (length tags)) (omega (arith, longest-is)),
-        )
+use Rattle.printing.specs.Printing.{imageOfList, outputOf, printed, printedCount, printedInto}
 
 -- The output and the buffer, by what is read from the text: building is accepted,
 module _ (before : List ℕ) (enough : longestImage ≤ length before) where
@@ -53,7 +22,7 @@ module _ (before : List ℕ) (enough : longestImage ≤ length before) where
       → followedBy o (λ listed. buildingOf (listed .tags) (listed .groups) (listed .limit) (length before)) ≡ answered size
       → (length (outputOf (followedBy o imageOfList)) ≡ size)
       × (bufferOfList o before ≡ outputOf (followedBy o imageOfList) ++ drop (length (outputOf (followedBy o imageOfList))) before)
-  unfolding followedBy imageOfList answeredBy outputOf bufferOfList longestImage
+  unfolding followedBy imageOfList answeredBy outputOf bufferOfList
   list-built (answered listed) e =
       let tags = listed .tags in
       let groups = listed .groups in
@@ -66,7 +35,7 @@ module _ (before : List ℕ) (enough : longestImage ≤ length before) where
   list-refused : (o : Outcome Listed) {number place : ℕ}
       → followedBy o (λ listed. buildingOf (listed .tags) (listed .groups) (listed .limit) (length before)) ≡ refused number place
       → (outputOf (followedBy o imageOfList) ≡ pairLine number place) × (bufferOfList o before ≡ before)
-  unfolding followedBy imageOfList answeredBy outputOf bufferOfList longestImage
+  unfolding followedBy imageOfList answeredBy outputOf bufferOfList
   list-refused (answered listed) e =
       let tags = listed .tags in
       let groups = listed .groups in

@@ -4,10 +4,9 @@ ghost use mathlib.Core.Path.{_≡_};
 ghost use lib.ListN.{length};
 ghost use Rattle.printing.specs.Printing.{printedCount, printedInto};
 
-// The most bytes that an image has, and the bytes of a line.
-const LONGEST_IMAGE: usize = 50699;
-
-const LINE_LENGTH: usize = 11;
+// The most bytes that an image has.
+pub const LONGEST_IMAGE: usize = text::LINE_LENGTH
+    * (1 + refusal::GROUP_CELLS + refusal::TAG_CELLS);
 
 // Writes what the index printer writes for a text at the beginning of `out`, and answers how many bytes. An `out` that is shorter than
 // the longest image is left as it is, and the answer is 0.
@@ -25,7 +24,7 @@ pub fn print_index(text: &[u8], out: &mut [u8]) -> usize
             let number = refusal::reason_number(reason);
             let place = refusal.place as u32;
             text::write_pair_line(out, 0, number, place);
-            LINE_LENGTH
+            text::LINE_LENGTH
         }
     }
 }

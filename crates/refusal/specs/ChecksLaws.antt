@@ -7,7 +7,7 @@ use mathlib.Core.List.{List, [], _∷_, _++_}
 use mathlib.Core.Option.{Option, none, some}
 use native.Mathlib.Omega.{arith}
 use lib.Dec.{eqb}
-use borrow.Author.Tests.{eqb-false}
+use borrow.Author.Tests.{eqb-true, eqb-false}
 use Rattle.lists.specs.BoolLaws.{neither-of-or}
 use Rattle.refusal.specs.Outcome.{Outcome, answered, refused}
 use Rattle.lists.specs.First.{metAt}
@@ -22,13 +22,6 @@ metAt-true place e = rw e
 pub metAt-false : (place : ℕ) {condition : Bool} → condition ≡ false → metAt place condition ≡ none
 unfolding metAt
 metAt-false place e = rw e
-
--- A condition that is met holds, and is met at its own place.
-pub true-of-metAt : (place : ℕ) (condition : Bool) {p : ℕ} → metAt place condition ≡ some p
-    → (condition ≡ true) × (p ≡ place)
-unfolding metAt
-true-of-metAt place true e = (refl, cc)
-true-of-metAt place false e = (cc, cc)
 
 -- A condition that is not met fails.
 pub false-of-metAt : (place : ℕ) (condition : Bool) → metAt place condition ≡ none → condition ≡ false
@@ -46,11 +39,6 @@ pub met-false : {condition : Bool} → condition ≡ false → met condition ≡
 unfolding met
 met-false e = metAt-false 0 e
 
--- A condition that names no place and is met holds, and is met at place 0.
-pub true-of-met : (condition : Bool) {p : ℕ} → met condition ≡ some p → (condition ≡ true) × (p ≡ 0)
-unfolding met
-true-of-met condition e = true-of-metAt 0 condition e
-
 -- A condition that names no place and is not met fails.
 pub false-of-met : (condition : Bool) → met condition ≡ none → condition ≡ false
 unfolding met
@@ -67,6 +55,11 @@ abbrev pub metBy : List Check → ℕ → Option ℕ
 metBy [] number = none
 metBy (check ∷ checks) number = cond (eqb (check .0) number) (check .1) (metBy checks number)
 
+-- What holds of each check of a list, in the list's order, and `tt` behind the last.
+infixr 5 _then_
+pub _then_ : {A B : Type 0} → A → B → A × B
+h then rest = (h, rest)
+
 -- Where the checks pass, none of them is met, whatever its number.
 pub passed : (checks : List Check) → Pass checks → (number : ℕ) → metBy checks number ≡ none
 passed [] h number = refl
@@ -76,10 +69,6 @@ passed (check ∷ checks) h number = go (eqb (check .0) number) (passed checks (
     go true later = h .0
     go false later = later
 
--- One check more that is not met, in front of those that pass.
-pub pass-more : {A B : Type 0} → A → B → A × B
-pass-more h rest = (h, rest)
-
 pub pass-append : (checks more : List Check) → Pass checks → Pass more → Pass (checks ++ more)
 pass-append [] more h j = j
 pass-append (check ∷ checks) more h j = (h .0, pass-append checks more (h .1) j)
@@ -87,6 +76,17 @@ pass-append (check ∷ checks) more h j = (h .0, pass-append checks more (h .1) 
 pub pass-split : (checks more : List Check) → Pass (checks ++ more) → Pass checks × Pass more
 pass-split [] more h = (tt, h)
 pass-split (check ∷ checks) more h = let (front, back) = pass-split checks more (h .1) in ((h .0, front), back)
+
+-- The checks before the first with a number: all of them where there is no such check.
+abbrev pub checksBefore : ℕ → List Check → List Check
+checksBefore number [] = []
+checksBefore number (check ∷ checks) = cond (eqb (check .0) number) [] (check ∷ checksBefore number checks)
+
+-- One check more passes, and the next one is reached. Which is next, the list says.
+pub passed-on : (checks : List Check) (number next : ℕ)
+    → checksBefore next checks ≡ checksBefore number checks ++ (number, metBy checks number) ∷ []
+    → Pass (checksBefore number checks) → metBy checks number ≡ none → Pass (checksBefore next checks)
+passed-on checks number next follows h e = rw follows (pass-append (checksBefore number checks) _ h (e, tt))
 
 -- Two lists of checks agree, each check where those before it pass; and where all pass this holds behind them.
 abbrev pub Agree : List Check → List Check → Type 0 → Type 0
@@ -158,6 +158,28 @@ module _ {A : Type 0} where
   refused-inOrder ((number, none) ∷ checks) o (inr h) = refused-inOrder checks o (h .1)
   refused-inOrder ((number, some place) ∷ checks) o (inl h) = cc
   refused-inOrder ((number, some place) ∷ checks) o (inr h) = cc
+
+  -- A check that is met where those before it pass is the refusal.
+  pub met-first : (checks : List Check) (o : Outcome A) (number : ℕ) {place : ℕ}
+      → Pass (checksBefore number checks) → metBy checks number ≡ some place → inOrder checks o ≡ refused number place
+  unfolding inOrder
+  met-first [] o number h e = cc
+  met-first ((own, spot) ∷ checks) o number {place} h e = go (eqb own number) refl h e (met-first checks o number)
+    where
+      go : (b : Bool) → eqb own number ≡ b → Pass (cond b [] ((own, spot) ∷ checksBefore number checks))
+          → cond b spot (metBy checks number) ≡ some place
+          → (Pass (checksBefore number checks) → metBy checks number ≡ some place → inOrder checks o ≡ refused number place)
+          → inOrder ((own, spot) ∷ checks) o ≡ refused number place
+      go true same h e later = rw (e, eqb-true own number same)
+      go false other h e later = rw (h .0) (later (h .1) e)
+
+  -- Lists that differ in one check come to the same if it is met alike where those before it pass.
+  pub inOrder-but : (front : List Check) (number : ℕ) {spot spot′ : Option ℕ} (back : List Check) (o : Outcome A) → (Pass front → spot ≡ spot′)
+      → inOrder (front ++ (number, spot) ∷ back) o ≡ inOrder (front ++ (number, spot′) ∷ back) o
+  unfolding inOrder
+  inOrder-but [] number back o same = rw (same tt)
+  inOrder-but ((own, none) ∷ front) number back o same = inOrder-but front number back o (λ passes. same (refl, passes))
+  inOrder-but ((own, some place) ∷ front) number back o same = refl
 
   -- Checks after checks run in that order.
   pub inOrder-append : (checks more : List Check) (o : Outcome A)

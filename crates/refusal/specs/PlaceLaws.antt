@@ -1,7 +1,7 @@
 -- How far a refusal's place can lie, and that its number is not 0: from an operation's list of checks. Assumes nothing.
 use mathlib.Core.Path.{_≡_, refl}
 use mathlib.Core.Bool.{Bool, true, false, cond, _&&_}
-use mathlib.Core.List.{List, [], _∷_}
+use mathlib.Core.List.{List, [], _∷_, _++_, append-nil, append-assoc}
 use mathlib.Core.Option.{Option, none, some}
 use Prim.Native.Nat.{ℕ, _≤_, _<_}
 use native.Mathlib.Omega.{arith}
@@ -11,7 +11,8 @@ use Rattle.lists.specs.BoolLaws.{both-of-and}
 use Rattle.refusal.specs.Outcome.{Outcome, answered, refused, followedBy}
 use Rattle.lists.specs.First.{metAt, first}
 use Rattle.lists.specs.FirstLaws.{first-some}
-use Rattle.refusal.specs.Checks.{Check, met, inOrder}
+use Rattle.refusal.specs.Checks.{Check, met, inOrder, Pass}
+use Rattle.refusal.specs.ChecksLaws.{pass-append}
 
 -- A place, where one is named, is below the bound.
 abbrev pub SpotBelow : ℕ → Option ℕ → Type 0
@@ -23,19 +24,25 @@ abbrev pub PlaceBelow : {A : Type 0} → ℕ → Outcome A → Type 0
 PlaceBelow bound (answered a) = Unit {0}
 PlaceBelow bound (refused number place) = place < bound
 
--- Each check names a place below the bound where the checks before it pass, and where all pass this holds behind them.
-abbrev pub ChecksBelow : ℕ → List Check → Type 0 → Type 0
-ChecksBelow bound [] behind = behind
-ChecksBelow bound (check ∷ checks) behind = SpotBelow bound (check .1) × (check .1 ≡ none → ChecksBelow bound checks behind)
+-- Each check names a place below the bound where those before it pass: `front`, and the checks of the list before it.
+abbrev pub EachBelow : ℕ → List Check → List Check → Type 0
+EachBelow bound front [] = Unit {0}
+EachBelow bound front (check ∷ checks) = (Pass front → SpotBelow bound (check .1)) × EachBelow bound (front ++ check ∷ []) checks
 
 module _ {A : Type 0} (bound : ℕ) where
-  -- Then the place of the refusal that comes is below it.
-  pub below-checks : (checks : List Check) (o : Outcome A) → ChecksBelow bound checks (PlaceBelow bound o)
-      → PlaceBelow bound (inOrder checks o)
+  below-from : (front checks : List Check) (o : Outcome A) → Pass front → EachBelow bound front checks
+      → (Pass (front ++ checks) → PlaceBelow bound o) → PlaceBelow bound (inOrder checks o)
   unfolding inOrder
-  below-checks [] o h = h
-  below-checks ((number, none) ∷ checks) o h = below-checks checks o (h .1 refl)
-  below-checks ((number, some place) ∷ checks) o h = h .0
+  below-from front [] o passes each behind = behind (rw append-nil passes)
+  below-from front ((number, none) ∷ checks) o passes each behind =
+      below-from (front ++ (number, none) ∷ []) checks o (pass-append front _ passes (refl, tt)) (each .1)
+      (λ all. behind (rw append-assoc at all))
+  below-from front ((number, some place) ∷ checks) o passes each behind = each .0 passes
+
+  -- Then the place of the refusal that comes is below it, if it is behind the checks.
+  pub below-checks : (checks : List Check) (o : Outcome A) → EachBelow bound [] checks
+      → (Pass checks → PlaceBelow bound o) → PlaceBelow bound (inOrder checks o)
+  below-checks checks o = below-from [] checks o tt
 
   -- One operation after another.
   pub below-followed : {B : Type 0} (o : Outcome B) (next : B → Outcome A) → PlaceBelow bound o → ((b : B) → PlaceBelow bound (next b))

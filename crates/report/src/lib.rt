@@ -1,7 +1,8 @@
-// Printing for the programs that run cases: words, numbers and refusals on standard output. What is printed is held to a stored
-// output and not proved, so nothing here has a promise.
+// What the programs that run cases share: words, numbers and refusals printed on standard output, and a long list text. What is
+// printed is held to a stored output and not proved, so nothing here has a promise.
 use libc::STDOUT_FILENO;
 use refusal::Refusal;
+use text::LINE_LENGTH;
 
 pub fn words(text: &[u8]) {
     io::write_all(STDOUT_FILENO, text);
@@ -26,5 +27,20 @@ pub fn numbers(cells: &[u32]) {
         words(b" ");
         number(cells[i] as u64);
         i += 1;
+    }
+}
+
+// Writes a list text over the whole buffer: B = 2, L = 9, and the tags 0, 1, 2, …, one a line, as many lines as there is room for.
+pub fn number_lines(text: &mut [u8]) {
+    if text.len() < LINE_LENGTH {
+        return;
+    }
+    text::write_pair_line(text, 0, 2, 9);
+    let mut at = LINE_LENGTH;
+    let mut tag: u32 = 0;
+    while LINE_LENGTH <= text.len() - at {
+        text::write_tag_line(text, at, tag);
+        tag = std::num::wrapping_add_u32(tag, 1);
+        at += LINE_LENGTH;
     }
 }

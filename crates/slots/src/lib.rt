@@ -1,4 +1,6 @@
 // The slots of an image whose numbers are read into cells: the lowest that is misplaced, and the lowest that repeats a tag.
+use refusal::GROUP_CELLS;
+use refusal::TAG_CELLS;
 ghost use mathlib.Core.Path.{_≡_};
 ghost use mathlib.Core.Option.{none};
 ghost use lib.ListN.{getD};
@@ -7,12 +9,8 @@ ghost use Rattle.image.specs.Checking.{misplaced};
 ghost use Rattle.slots.specs.Cells.{cellsView, Regular, InGroup};
 ghost use Rattle.slots.specs.Fault.{orRepeated, faultAt, faultBefore};
 
-// Cells for the start of every group and N behind the last, for the seeds, and for the tags of the slots.
-pub const START_CELLS: usize = refusal::GROUPS_MAX as usize + 1;
-
-pub const SEED_CELLS: usize = refusal::GROUPS_MAX as usize;
-
-pub const TAG_CELLS: usize = refusal::TAGS_MAX;
+// Cells for the start of every group, and N behind the last.
+pub const START_CELLS: usize = GROUP_CELLS + 1;
 
 // What is wrong with the slots: the lowest misplaced one, or where none is, the lowest that repeats a tag.
 pub enum SlotFault {
@@ -24,7 +22,7 @@ pub enum SlotFault {
 // The fault of all slots. One walk looks for both kinds: it ends at a misplaced slot, and remembers the lowest that repeats a tag.
 pub fn slot_fault(
     starts: &[u32; START_CELLS],
-    seeds: &[u32; SEED_CELLS],
+    seeds: &[u32; GROUP_CELLS],
     tags: &[u32; TAG_CELLS],
     groups: u32,
 ) -> SlotFault
@@ -59,7 +57,7 @@ pub fn slot_fault(
 // other place.
 fn fault_at(
     starts: &[u32; START_CELLS],
-    seeds: &[u32; SEED_CELLS],
+    seeds: &[u32; GROUP_CELLS],
     tags: &[u32; TAG_CELLS],
     groups: u32,
     g: usize,

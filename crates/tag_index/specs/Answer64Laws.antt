@@ -16,8 +16,9 @@ use Rattle.group.specs.Ascending.{limitCheck, ascendingCheck}
 use Rattle.list.specs.Reading.{Listed, readingChecks, readingOf}
 use Rattle.hash.specs.Formula.{groupOf}
 use Rattle.image.specs.View.{View, viewOf, groupsIn, startIn, endIn, slotLineIn, slotIn}
-use Rattle.image.specs.Checking.{openingChecks, checkingChecks, checkingOf}
+use Rattle.image.specs.Checking.{openingChecks, numberChecks, checkingChecks, checkingOf}
 use Rattle.image.specs.Lookup.{Found, number, unknown, groupChecks, lookupChecks, atSlot, lookupInGroup, lookupOf}
+use Rattle.image.specs.SheetLaws.{longest-is}
 use Rattle.image.specs.CheckedLookupLaws.{count-most}
 use Rattle.image.specs.LookupLaws.{lookup-any}
 use Rattle.numbering.specs.Building.{earlierChecks, buildingChecks, buildingOf}
@@ -64,7 +65,7 @@ build-small text room n = go (listFromText text)
   where
     go : (o : Outcome Listed)
         → followedBy o (λ listed. buildingOf (listed .tags) (listed .groups) (listed .limit) room) ≡ answered n → n < tagEnd
-    go (answered listed) e = omega (arith, answered-most (listed .tags) (listed .groups) (listed .limit) room e)
+    go (answered listed) e = omega (arith, answered-most (listed .tags) (listed .groups) (listed .limit) room e, longest-is)
     go (refused reason place) e = absurd (let z : _≡_ {A = ℕ} 0 1 = cc in omega arith)
 
 -- So every outcome of building from a text fits,
@@ -75,7 +76,7 @@ build-fits text room =
 
 -- every outcome of checking,
 pub check-fits : (image : List ℕ) → Fits (checkingOf image)
-unfolding checkingOf checkingChecks openingChecks
+unfolding checkingOf checkingChecks numberChecks openingChecks
 check-fits image =
     fits-of imageLines (checkingOf image) (omega arith) (checking-place image)
     (numbered-checks (checkingChecks (viewOf image)) (answered 0) refl tt)

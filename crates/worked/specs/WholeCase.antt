@@ -20,9 +20,9 @@ use Rattle.group.specs.Group.{bothPlaces, candidates, leastSeed, taken}
 use Rattle.group.specs.Ascending.{limitCheck, notAbove, ascendingCheck}
 use Rattle.list.specs.Reading.{malformed, lineCount, tagCount, tagsFrom, listedIn, readingChecks, readingOf}
 use Rattle.lists.specs.UpTo.{upTo}
-use Rattle.image.specs.Sheet.{linesOf, bytesOf, imageLength}
+use Rattle.image.specs.Sheet.{linesOf, bytesOf, imageLength, longestImage}
 use Rattle.image.specs.View.{viewOf, countIn, groupsIn, startIn, seedIn, slotLineIn, slotIn, endIn, faulty, candidateIn}
-use Rattle.image.specs.Checking.{openingChecks, malformedIn, groupOfSlot, misplaced, repeated, checkingChecks, checkingOf}
+use Rattle.image.specs.Checking.{openingChecks, malformedIn, groupOfSlot, misplaced, repeated, numberChecks, checkingChecks, checkingOf}
 use Rattle.image.specs.Lookup.{number, groupChecks, lookupChecks, atSlot, lookupInGroup, lookupOf}
 use Rattle.numbering.specs.Members.{select, members, startOf}
 use Rattle.numbering.specs.Number.{choiceOf, placeIn, numberOf, tagNumbered}
@@ -37,8 +37,8 @@ unfolding flatten orElse outside answeredBy followedBy first metAt isSome met in
     groupOf multiplier placeOf leading figure valueFrom same field lineAt pairLine tagLine ended bothFields pairOf tagOf
     within imageHeader groupLine slotLine listHeader listLine occurs distinct placeBy beginning leastFrom least feasible
     bothPlaces candidates leastSeed taken limitCheck notAbove ascendingCheck malformed lineCount tagCount tagsFrom
-    listedIn readingChecks readingOf upTo linesOf bytesOf imageLength viewOf countIn groupsIn startIn seedIn slotLineIn
-    slotIn endIn faulty candidateIn openingChecks malformedIn groupOfSlot misplaced repeated checkingChecks checkingOf
+    listedIn readingChecks readingOf upTo linesOf bytesOf imageLength longestImage viewOf countIn groupsIn startIn seedIn slotLineIn
+    slotIn endIn faulty candidateIn openingChecks malformedIn groupOfSlot misplaced repeated numberChecks checkingChecks checkingOf
     groupChecks lookupChecks atSlot lookupInGroup lookupOf select members startOf choiceOf placeIn numberOf tagNumbered
     sheetOf seedTaken choicesTaken imageOf buildingChecks earlierChecks buildingOf listFromText buildingFromText
     imageOfList outputOf printed answer64 foundNumber buildAnswer checkAnswer lookupAnswer

@@ -10,9 +10,6 @@ ghost use Rattle.write.specs.Stated.{statedSheet, statedLine, EndsSmall,
 ghost use Rattle.write.specs.Planned.{plannedSheet, Planned};
 ghost use Rattle.lists.specs.Written.{writtenAt};
 
-// Every line is ten columns and a line feed.
-const LINE_LENGTH: usize = 11;
-
 // Writes the image of tags that are ordered by group, under the seeds and words that were planned for the groups: the tags of each
 // group go into the order of their places, and then all lines are written. The bytes after the image stay.
 pub fn write_image(
@@ -29,7 +26,7 @@ pub fn write_image(
         ≡ bytesOf (plannedSheet (now (ordered .entry)) (now (ends .entry)) (now (seeds .entry)) groups count)
         ++ drop (imageLength groups count) (now (buffer .entry)) ⌝ }
 {
-    let mut slots = [0u32; 4096];
+    let mut slots = [0u32; refusal::TAG_CELLS];
     arrange::arrange(ordered, ends, seeds, words, groups, &mut slots);
     write_lines(ends, seeds, &slots, groups, count, buffer);
 }
@@ -70,7 +67,7 @@ fn write_line(
     ensures bytes { λ _. ⌜ now (buffer .exit) ≡ writtenAt (lineLength * k)
         (statedLine (now (ends .entry)) (now (seeds .entry)) (now (slots .entry)) groups count k) (now (buffer .entry)) ⌝ }
 {
-    let at = LINE_LENGTH * k;
+    let at = text::LINE_LENGTH * k;
     if k == 0 {
         text::write_pair_line(buffer, at, count as u32, groups as u32);
         return;

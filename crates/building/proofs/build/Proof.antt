@@ -1,15 +1,78 @@
--- `building::build` meets its contract: each branch is one of the ways in which building ends, and Condition 3 follows from the two
--- equations. Assumes nothing.
-use mathlib.Core.Path.{sym, _∙_, ap}
+-- `building::build` meets its contract: each branch is the first check that is met, and Condition 3 follows from the two equations.
+-- Assumes nothing.
+use mathlib.Core.Path.{_≡_, refl, sym, _∙_, ap}
+use mathlib.Core.List.{List}
+use mathlib.Core.Option.{some}
+use Prim.Native.Nat.{ℕ}
 use native.Mathlib.Omega.{arith}
+use lib.ListN.{length}
+use borrow.Author.Needs.{needs}
+use borrow.Author.Tests.{lt-ltb, le-ltb}
 use Rattle.refusal.specs.Limits.{groupsMax}
 use Rattle.refusal.specs.LimitsLaws.{inside}
+use Rattle.refusal.specs.Outcome.{Outcome, refused}
 use Rattle.refusal.specs.Answer.{firstMeaning}
-use Rattle.numbering.specs.BuildingLaws.{building-groups, building-limit, building-many, building-descends, building-short}
-use Rattle.building.specs.PromiseLaws.{promised, promised-refusal}
-use borrow.Author.Needs.{needs}
+use Rattle.refusal.specs.Checks.{Check, Pass}
+use Rattle.refusal.specs.ChecksLaws.{met-true, met-false, metBy, checksBefore, passed-on}
+use Rattle.group.specs.Ascending.{limitCheck, ascendingCheck}
+use Rattle.numbering.specs.Building.{earlierChecks}
+use Rattle.numbering.specs.BuildingLaws.{building-refused}
+use Rattle.building.specs.PromiseLaws.{Promised, promised, promised-refusal}
 use Rattle.building.proofs.build.Statement.{statement}
 use Rattle.building.proofs.build.Tie as tie
+
+-- The function's entry, and the checks there.
+abbrev checks : tie.After-shared-slice-known → List Check
+checks e = let a = e .before .args in earlierChecks (a .tags .now) (a .groups) (a .limit) (length (a .buffer .now))
+
+-- Where 8, 4, 5, 6 and 9 have been tested, one after the other.
+abbrev entry : tie.After-outside → tie.After-shared-slice-known
+entry c = c .before .before
+
+abbrev entry4 : tie.After-outside2 → tie.After-shared-slice-known
+entry4 c = entry (c .before .before)
+
+abbrev entry6 : tie.After-first-not-above → tie.After-shared-slice-known
+entry6 c = entry4 (c .before .before .before)
+
+abbrev entry9 : tie.After-image-length → tie.After-shared-slice-known
+entry9 c = entry6 (c .before .before .before)
+
+-- A check that is met where those before it pass is the refusal.
+due : (e : tie.After-shared-slice-known) (number : ℕ) {place : ℕ} {outcome : Outcome ℕ} → outcome ≡ refused number place
+    → Pass (checksBefore number (checks e)) → metBy (checks e) number ≡ some place
+    → let a = e .before .args in Promised (a .tags .now) (a .groups) (a .limit) (a .buffer .now) outcome (a .buffer .now)
+due e number is passes met =
+    let a = e .before .args in
+    promised-refusal (a .tags .now) (a .groups) (a .limit) (a .buffer .now) (λ i. omega (arith, e .shared-slice-known .given i)) is
+    (building-refused (a .tags .now) (a .groups) (a .limit) _ number passes met)
+
+-- What has passed on the way to the next check.
+passed-8 : (c : tie.Else1) → Pass (checksBefore 4 (checks (entry (c .before))))
+unfolding earlierChecks limitCheck ascendingCheck
+passed-8 c = passed-on (checks (entry (c .before))) 8 4 refl tt (met-false (sym (c .before .outside .ensures) ∙ c .if1 .left))
+
+passed-4 : (c : tie.Else2) → Pass (checksBefore 5 (checks (entry4 (c .before))))
+unfolding earlierChecks limitCheck ascendingCheck
+passed-4 c =
+    passed-on (checks (entry4 (c .before))) 4 5 refl (passed-8 (c .before .before))
+    (met-false (sym (c .before .outside2 .ensures) ∙ c .if2 .left))
+
+passed-5 : (c : tie.Else3) → Pass (checksBefore 6 (checks (entry4 (c .before .before))))
+unfolding earlierChecks limitCheck ascendingCheck
+passed-5 c = passed-on (checks (entry4 (c .before .before))) 5 6 refl (passed-4 (c .before)) (met-false (le-ltb _ _ (c .if3 .left)))
+
+passed-6 : (c : tie.After-enum-told) → Pass (checksBefore 9 (checks (entry6 (c .before .before))))
+unfolding earlierChecks limitCheck ascendingCheck
+passed-6 c =
+    passed-on (checks (entry6 (c .before .before))) 6 9 refl (passed-5 (c .before .before .before))
+    (sym (c .before .before .first-not-above .ensures) ∙ ap firstMeaning (c .enum-told .given .1))
+
+passed-9 : (c : tie.Else4) → Pass (checksBefore 10 (checks (entry9 (c .before))))
+unfolding earlierChecks limitCheck ascendingCheck
+passed-9 c =
+    passed-on (checks (entry9 (c .before))) 9 10 refl (passed-6 (c .before .before))
+    (met-false (le-ltb _ _ (rw (c .before .image-length .ensures) at (c .if4 .left))))
 
 outside-requires : tie.Need-outside-requires
 outside-requires c κs = search needs
@@ -18,12 +81,10 @@ refuse-requires : tie.Need-refuse-requires
 refuse-requires c κs = search needs
 
 returns : tie.Need-returns
+unfolding earlierChecks limitCheck ascendingCheck
 returns c =
-    let grouped = c .before .before in
-    let known = grouped .before .before in
-    let a = known .before .args in
-    promised-refusal (a .tags .now) (a .groups) (a .limit) (a .buffer .now) (λ i. omega (arith, known .shared-slice-known .given i))
-    (c .refuse .ensures) (building-groups (a .tags .now) (a .groups) (a .limit) _ (sym (grouped .outside .ensures) ∙ c .before .if1 .taken))
+    let tested = c .before .before in
+    due (entry tested) 8 (c .refuse .ensures) tt (met-true (sym (tested .outside .ensures) ∙ c .before .if1 .taken))
 
 outside-requires-2 : tie.Need-outside-requires-2
 outside-requires-2 c κs = search needs
@@ -32,32 +93,20 @@ refuse-requires-2 : tie.Need-refuse-requires-2
 refuse-requires-2 c κs = search needs
 
 returns-2 : tie.Need-returns-2
+unfolding earlierChecks limitCheck ascendingCheck
 returns-2 c =
-    let limited = c .before .before in
-    let legal-groups = limited .before in
-    let grouped = legal-groups .before in
-    let known = grouped .before .before in
-    let a = known .before .args in
-    let groups-legal = sym (grouped .outside .ensures) ∙ legal-groups .if1 .left in
-    promised-refusal (a .tags .now) (a .groups) (a .limit) (a .buffer .now) (λ i. omega (arith, known .shared-slice-known .given i))
-    (c .refuse2 .ensures)
-    (building-limit (a .tags .now) (a .groups) (a .limit) _ groups-legal (sym (limited .outside2 .ensures) ∙ c .before .if2 .taken))
+    let tested = c .before .before in
+    due (entry4 tested) 4 (c .refuse2 .ensures) (passed-8 (tested .before))
+    (met-true (sym (tested .outside2 .ensures) ∙ c .before .if2 .taken))
 
 refuse-requires-3 : tie.Need-refuse-requires-3
 refuse-requires-3 c κs = search needs
 
 returns-3 : tie.Need-returns-3
+unfolding earlierChecks limitCheck ascendingCheck
 returns-3 c =
-    let legal-limit = c .before .before in
-    let limited = legal-limit .before in
-    let legal-groups = limited .before in
-    let grouped = legal-groups .before in
-    let known = grouped .before .before in
-    let a = known .before .args in
-    let groups-legal = sym (grouped .outside .ensures) ∙ legal-groups .if1 .left in
-    let limit-legal = sym (limited .outside2 .ensures) ∙ legal-limit .if2 .left in
-    promised-refusal (a .tags .now) (a .groups) (a .limit) (a .buffer .now) (λ i. omega (arith, known .shared-slice-known .given i))
-    (c .refuse3 .ensures) (building-many (a .tags .now) (a .groups) (a .limit) _ groups-legal limit-legal (c .before .if3 .taken))
+    let legal = c .before .before in
+    due (entry4 (legal .before)) 5 (c .refuse3 .ensures) (passed-4 legal) (met-true (lt-ltb _ _ (c .before .if3 .taken)))
 
 first-not-above-requires : tie.Need-first-not-above-requires
 first-not-above-requires c κs = search needs
@@ -69,74 +118,35 @@ refuse-requires-4 : tie.Need-refuse-requires-4
 refuse-requires-4 c κs = search needs
 
 returns-4 : tie.Need-returns-4
+unfolding earlierChecks limitCheck ascendingCheck
 returns-4 c =
-    let compared = c .before .before .before .before in
-    let few = compared .before in
-    let legal-limit = few .before in
-    let limited = legal-limit .before in
-    let legal-groups = limited .before in
-    let grouped = legal-groups .before in
-    let known = grouped .before .before in
-    let a = known .before .args in
-    let groups-legal = sym (grouped .outside .ensures) ∙ legal-groups .if1 .left in
-    let limit-legal = sym (limited .outside2 .ensures) ∙ legal-limit .if2 .left in
-    promised-refusal (a .tags .now) (a .groups) (a .limit) (a .buffer .now) (λ i. omega (arith, known .shared-slice-known .given i))
-    (c .refuse4 .ensures)
-    (building-descends (a .tags .now) (a .groups) (a .limit) _ groups-legal limit-legal (few .if3 .left)
-    (sym (compared .first-not-above .ensures) ∙ ap firstMeaning (c .before .before .i .given .1)))
+    let told = c .before .before in
+    let tested = told .before .before in
+    due (entry6 tested) 6 (c .refuse4 .ensures) (passed-5 (tested .before))
+    (sym (tested .first-not-above .ensures) ∙ ap firstMeaning (told .i .given .1))
 
 enum-told : tie.Need-enum-told
 enum-told c = search needs
 
 image-length-requires : tie.Need-image-length-requires
 image-length-requires c κs =
-    let few = c .before .before .before in
-    let legal-groups = few .before .before .before in
-    let grouped = legal-groups .before in
-    let a = grouped .before .before .before .args in
-    ((inside 1 groupsMax (a .groups) (sym (grouped .outside .ensures) ∙ legal-groups .if1 .left)) .1, few .if3 .left)
+    let counted = c .before .before .before in
+    let legal = counted .before .before .before in
+    let groups = entry (legal .before) .before .args .groups in
+    ((inside 1 groupsMax groups (sym (legal .before .outside .ensures) ∙ legal .if1 .left)) .1, counted .if3 .left)
 
 refuse-requires-5 : tie.Need-refuse-requires-5
 refuse-requires-5 c κs = search needs
 
 returns-5 : tie.Need-returns-5
+unfolding earlierChecks limitCheck ascendingCheck
 returns-5 c =
-    let measured = c .before .before in
-    let rising = measured .before in
-    let compared = rising .before .before in
-    let few = compared .before in
-    let legal-limit = few .before in
-    let limited = legal-limit .before in
-    let legal-groups = limited .before in
-    let grouped = legal-groups .before in
-    let known = grouped .before .before in
-    let a = known .before .args in
-    let groups-legal = sym (grouped .outside .ensures) ∙ legal-groups .if1 .left in
-    let limit-legal = sym (limited .outside2 .ensures) ∙ legal-limit .if2 .left in
-    let up = sym (compared .first-not-above .ensures) ∙ ap firstMeaning (rising .enum-told .given .1) in
-    promised-refusal (a .tags .now) (a .groups) (a .limit) (a .buffer .now) (λ i. omega (arith, known .shared-slice-known .given i))
-    (c .refuse5 .ensures)
-    (building-short (a .tags .now) (a .groups) (a .limit) _ groups-legal limit-legal
-    (few .if3 .left) up (rw (measured .image-length .ensures) at (c .before .if4 .taken)))
+    let tested = c .before .before in
+    due (entry9 tested) 9 (c .refuse5 .ensures) (passed-6 (tested .before))
+    (met-true (lt-ltb _ _ (rw (tested .image-length .ensures) at (c .before .if4 .taken))))
 
 build-admitted-requires : tie.Need-build-admitted-requires
-build-admitted-requires c κs =
-    let fitting = c .before in
-    let measured = fitting .before in
-    let rising = measured .before in
-    let compared = rising .before .before in
-    let few = compared .before in
-    let legal-limit = few .before in
-    let limited = legal-limit .before in
-    let legal-groups = limited .before in
-    let grouped = legal-groups .before in
-    record {
-      groups-legal = sym (grouped .outside .ensures) ∙ legal-groups .if1 .left;
-      limit-legal = sym (limited .outside2 .ensures) ∙ legal-limit .if2 .left;
-      count-legal = few .if3 .left;
-      ascending = sym (compared .first-not-above .ensures) ∙ ap firstMeaning (rising .enum-told .given .1);
-      fits = rw (measured .image-length .ensures) at (fitting .if4 .left);
-    }
+build-admitted-requires c κs = record { passes = passed-9 (c .before) }
 
 same-length : tie.Need-same-length
 same-length c = search needs
@@ -144,11 +154,9 @@ same-length c = search needs
 returns-6 : tie.Need-returns-6
 returns-6 c =
     let built = c .before .before in
-    let fitting = built .before .before in
-    let grouped = fitting .before .before .before .before .before .before .before .before .before in
-    let known = grouped .before .before in
-    let a = known .before .args in
-    promised (a .tags .now) (a .groups) (a .limit) (a .buffer .now) (λ i. omega (arith, known .shared-slice-known .given i))
+    let e = entry9 (built .before .before .before) in
+    let a = e .before .args in
+    promised (a .tags .now) (a .groups) (a .limit) (a .buffer .now) (λ i. omega (arith, e .shared-slice-known .given i))
     (built .build-admitted .ensures .0) (built .build-admitted .ensures .1)
 
 pub build-spec : {M : Type 1} → statement M

@@ -5,12 +5,13 @@ use native.Mathlib.Omega.{arith}
 use Prim.Native.Nat.{ℕ, _≤_}
 use lib.ListN.{length, replicate}
 use Rattle.refusal.specs.Limits.{tagsMax, groupsMax}
-use Rattle.refusal.specs.LimitsLaws.{inside}
 use Rattle.refusal.specs.Answer.{firstMeaning}
+use Rattle.group.specs.Ascending.{limitCheck, ascendingCheck}
+use Rattle.numbering.specs.Building.{earlierChecks}
 use Rattle.order.specs.Order.{groupEnds, orderedInto}
 use Rattle.order.specs.OrderLaws.{ordered-length, unless-none}
-use Rattle.numbering.specs.BuildingLaws.{building-large, buffer-kept}
-use Rattle.building.specs.ArraysLaws.{sorted-of-ordered, ends-long}
+use Rattle.numbering.specs.BuildingLaws.{building-refused, buffer-kept}
+use Rattle.building.specs.ArraysLaws.{admitted-groups, admitted-count, passed-10, sorted-of-ordered, ends-long}
 use borrow.Author.Needs.{needs}
 use Rattle.building.proofs.build_admitted.Statement.{statement}
 use Rattle.building.proofs.build_admitted.Tie as tie
@@ -35,7 +36,7 @@ abbrev entry : Ordered → Entry
 entry c = c .before .before .before .before .before .before .before
 
 legal : (c : Entry) → (1 ≤ c .args .groups) × (c .args .groups ≤ groupsMax)
-legal c = inside 1 groupsMax (c .args .groups) (c .pre .groups-legal)
+legal c = admitted-groups (c .pre)
 
 -- The cells then.
 abbrev ends : Ordered → List ℕ
@@ -54,12 +55,12 @@ ordered-long : (c : Ordered) → length (ordered c) ≡ tagsMax
 ordered-long c =
     ap length (ordered-are c)
     ∙ ordered-length (entry c .args .groups) (entry c .args .tags .now)
-    (legal (entry c) .0) (replicate tagsMax 0) (entry c .pre .count-legal)
+    (legal (entry c) .0) (replicate tagsMax 0) (admitted-count (entry c .pre))
 
 order-by-group-requires : tie.Need-order-by-group-requires
 order-by-group-requires c κs =
     let start = c .before .before .before .before in
-    ((legal start .0, legal start .1, start .pre .count-legal), (refl, refl))
+    ((legal start .0, legal start .1, admitted-count (start .pre)), (refl, refl))
 
 enum-known-g : tie.Need-enum-known-g
 enum-known-g c = search needs
@@ -68,13 +69,14 @@ refuse-requires : tie.Need-refuse-requires
 refuse-requires c κs = search needs
 
 returns : tie.Need-returns
+unfolding earlierChecks limitCheck ascendingCheck
 returns c =
     let told = c .before .before in
     let ordered = told .before .before in
     let start = ordered .before .before .before .before .before in
     let a = start .args in
     let lowest = sym (ordered .order-by-group .ensures .0) ∙ ap firstMeaning (told .g .given .1) in
-    let outcome = building-large (start .pre) lowest in
+    let outcome = building-refused (a .tags .now) (a .groups) (a .limit) _ 10 (start .pre .passes) lowest in
     (c .refuse .ensures ∙ sym outcome, sym (buffer-kept (a .tags .now) (a .groups) (a .limit) (a .buffer .now) outcome))
 
 enum-told : tie.Need-enum-told
@@ -95,11 +97,10 @@ build-ordered-requires c κs =
     let start = entry told in
     let a = start .args in
     record {
-      admitted = start .pre;
-      small = sym (told .before .before .order-by-group .ensures .0) ∙ ap firstMeaning (told .enum-told .given .1);
+      passes = passed-10 (start .pre) (sym (told .before .before .order-by-group .ensures .0) ∙ ap firstMeaning (told .enum-told .given .1));
       sorted =
           sorted-of-ordered (a .groups) (a .tags .now) (replicate groupsMax 0) (legal start .0)
-          (legal start .1) (replicate tagsMax 0) (ends-are told) (ordered-are told) (start .pre .count-legal);
+          (legal start .1) (replicate tagsMax 0) (ends-are told) (ordered-are told) (admitted-count (start .pre));
       cells = omega (arith, ordered-long told);
     }
 

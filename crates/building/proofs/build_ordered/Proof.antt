@@ -10,7 +10,7 @@ use Rattle.plan.specs.PlanLaws.{planned-length}
 use Rattle.refusal.specs.Outcome.{answered}
 use Rattle.refusal.specs.Answer.{firstMeaning}
 use Rattle.numbering.specs.BuildingLaws.{image-length, building-seedless, building-answered, buffer-kept, buffer-written}
-use Rattle.building.specs.ArraysLaws.{groups-legal, plannable, seedless-first, planned as planned-record, planned-image}
+use Rattle.building.specs.ArraysLaws.{inputs, plannable, seedless-first, planned as planned-record, planned-image}
 use borrow.Author.Needs.{needs}
 use Rattle.building.proofs.build_ordered.Statement.{statement}
 use Rattle.building.proofs.build_ordered.Tie as tie
@@ -18,7 +18,7 @@ use Rattle.building.proofs.build_ordered.Tie as tie
 plan-groups-requires : tie.Need-plan-groups-requires
 plan-groups-requires c κs =
     let start = c .before .before .before .before .before .before in
-    (plannable (start .pre), (groups-legal (start .pre)) .1, refl, refl)
+    (plannable (start .pre), inputs (start .pre) .groups-legal .1, refl, refl)
 
 enum-known-g : tie.Need-enum-known-g
 enum-known-g c = search needs
@@ -33,7 +33,7 @@ returns c =
     let a = start .args in
     let lowest = sym (seedless-first (start .pre)) ∙ sym (planned .plan-groups .ensures .0)
     ∙ ap firstMeaning (c .before .before .g .given .1) in
-    let outcome = building-seedless (start .pre .admitted) (start .pre .small) lowest in
+    let outcome = building-seedless (a .tags .now) (a .groups) (a .limit) _ (start .pre .passes) lowest in
     (c .refuse .ensures ∙ sym outcome, sym (buffer-kept (a .tags .now) (a .groups) (a .limit) (a .buffer .now) outcome))
 
 enum-told : tie.Need-enum-told
@@ -47,7 +47,7 @@ slice-aggregate-write-image c =
     let a = start .args in
     let seeds = rw (told .enum-told .given .1) at (planned .plan-groups .ensures .1 .0) in
     let seed = partSeed (a .ordered .now) (a .ends .now) (a .limit) in
-    sym (ap length seeds ∙ planned-length seed (a .groups) _ (groups-legal (start .pre) .1))
+    sym (ap length seeds ∙ planned-length seed (a .groups) _ (inputs (start .pre) .groups-legal .1))
 
 slice-aggregate-write-image-2 : tie.Need-slice-aggregate-write-image-2
 slice-aggregate-write-image-2 c =
@@ -57,7 +57,7 @@ slice-aggregate-write-image-2 c =
     let a = start .args in
     let words = rw (told .enum-told .given .1) at (planned .plan-groups .ensures .1 .1) in
     let word = partWord (a .ordered .now) (a .ends .now) (a .limit) in
-    sym (ap length words ∙ planned-length word (a .groups) _ (groups-legal (start .pre) .1))
+    sym (ap length words ∙ planned-length word (a .groups) _ (inputs (start .pre) .groups-legal .1))
 
 write-image-requires : tie.Need-write-image-requires
 write-image-requires c κs =
@@ -67,14 +67,14 @@ write-image-requires c κs =
     let every = sym (seedless-first (start .pre)) ∙ sym (planned .plan-groups .ensures .0) ∙ ap firstMeaning (told .enum-told .given .1) in
     let seeds = rw (told .enum-told .given .1) at (planned .plan-groups .ensures .1 .0) in
     let words = rw (told .enum-told .given .1) at (planned .plan-groups .ensures .1 .1) in
-    let fit = groups-legal (start .pre) .1 in
+    let fit = inputs (start .pre) .groups-legal .1 in
     rw (seeds, words) (planned-record (start .pre) every _ _ fit fit)
 
 image-length-requires : tie.Need-image-length-requires
 image-length-requires c κs =
     let planned = c .before .before .before .before .before .before .before .before in
     let start = planned .before .before .before .before .before .before .before in
-    ((groups-legal (start .pre)) .1, start .pre .admitted .count-legal)
+    (inputs (start .pre) .groups-legal .1, inputs (start .pre) .count-legal)
 
 same-length : tie.Need-same-length
 same-length c = search needs
@@ -87,7 +87,7 @@ returns-2 c =
     let start = planned .before .before .before .before .before .before .before in
     let a = start .args in
     let every = sym (seedless-first (start .pre)) ∙ sym (planned .plan-groups .ensures .0) ∙ ap firstMeaning (told .enum-told .given .1) in
-    let outcome = building-answered (start .pre .admitted) (start .pre .small) every in
+    let outcome = building-answered (a .tags .now) (a .groups) (a .limit) _ (start .pre .passes) every in
     let seeds = rw (told .enum-told .given .1) at (planned .plan-groups .ensures .1 .0) in
     let count = length (a .tags .now) in
     let stated = ap (λ (l : List ℕ). bytesOf (plannedSheet (a .ordered .now) (a .ends .now) l (a .groups) count)) seeds in

@@ -7,8 +7,9 @@ use Rattle.refusal.specs.Outcome.{answered}
 use Rattle.refusal.specs.Answer.{firstMeaning}
 use Rattle.refusal.specs.Checks.{inOrder}
 use Rattle.image.specs.View.{View}
+use Rattle.image.specs.Checking.{numberChecks}
 use Rattle.slots.specs.Cells.{cellsView}
-use Rattle.checking.specs.Steps.{numberChecks, faultOutcome}
+use Rattle.checking.specs.Steps.{faultOutcome}
 use Rattle.checking.specs.StepsLaws.{regular-of, numbers-faulty, numbers-slots}
 use Rattle.checking.proofs.check_cells.Statement.{statement}
 use Rattle.checking.proofs.check_cells.Tie as tie

@@ -6,7 +6,8 @@ use native.Mathlib.Omega.{arith}
 use Rattle.building.specs.Answer.{buildOutcome}
 use Rattle.refusal.specs.PlaceLaws.{place-below}
 use Rattle.from_text.specs.PlaceLaws.{textLines, from-text-place}
-use Rattle.printing.specs.PrintingLaws.{longest-is, printed-nothing, printed-built, printed-refused}
+use Rattle.image.specs.SheetLaws.{longest-is}
+use Rattle.printing.specs.PrintingLaws.{printed-nothing, printed-built, printed-refused}
 use Rattle.printing.proofs.print_index.Statement.{statement}
 use Rattle.printing.proofs.print_index.Tie as tie
 

@@ -8,7 +8,7 @@ use native.Mathlib.Omega.{arith}
 use lib.ListN.{getD}
 use Rattle.hash.specs.Formula.{groupOf}
 use Rattle.slots.specs.EitherLaws.{either-of-zero, zero-of-either, either-fits}
-use Rattle.slots.specs.SlotLaws.{ownSlot, Examined, own-below, slot-misplaced, other-within, slot-repeated, slot-sound}
+use Rattle.slots.specs.SlotLaws.{candidateAt, Examined, own-below, slot-misplaced, other-within, slot-repeated, slot-sound}
 use Rattle.slots.proofs.fault_at.Statement.{statement}
 use Rattle.slots.proofs.fault_at.Tie as tie
 use Rattle.slots.proofs.fault_at.Reads as reads
@@ -36,7 +36,7 @@ abbrev tag : Entry → ℕ
 tag e = getD (e .args .tags .now) (e .args .j) 0
 
 -- The tag's slot under a choice is before the group's end.
-below : (e : Entry) (choice : ℕ) → ownSlot (e .args .starts .now) (e .args .seeds .now) (e .args .g) choice (tag e) < end e
+below : (e : Entry) (choice : ℕ) → candidateAt (e .args .starts .now) (e .args .seeds .now) (e .args .g) choice (tag e) < end e
 below e choice = let a = e .args in own-below (a .starts .now) (a .seeds .now) (a .groups) (a .g) (a .j) (e .pre .1 .0) choice (tag e)
 
 abbrev entry : Hashed → Entry

@@ -3,7 +3,10 @@ use mathlib.Core.Path.{_∙_}
 use native.Mathlib.Omega.{arith}
 use Rattle.refusal.specs.Limits.{groupsMax}
 use Rattle.refusal.specs.LimitsLaws.{outside-below}
-use Rattle.numbering.specs.BuildingLaws.{building-groups, buffer-kept}
+use Rattle.refusal.specs.ChecksLaws.{met-true}
+use Rattle.group.specs.Ascending.{limitCheck, ascendingCheck}
+use Rattle.numbering.specs.Building.{earlierChecks}
+use Rattle.numbering.specs.BuildingLaws.{building-refused, buffer-kept}
 use borrow.Author.Needs.{needs}
 use Rattle.building.proofs.worked.build_without_groups.Statement.{statement}
 use Rattle.building.proofs.worked.build_without_groups.Tie as tie
@@ -15,10 +18,11 @@ same-length : tie.Need-same-length
 same-length c = search needs
 
 returns : tie.Need-returns
+unfolding earlierChecks limitCheck ascendingCheck
 returns c =
     let built = c .before .before in
     let a = built .before .before .before .before .args in
-    let outcome = building-groups (a .tags .now) 0 1 _ (outside-below 1 groupsMax 0 (omega arith)) in
+    let outcome = building-refused (a .tags .now) 0 1 _ 8 tt (met-true (outside-below 1 groupsMax 0 (omega arith))) in
     (built .build .ensures .0 ∙ outcome, built .build .ensures .1 .0 ∙ buffer-kept (a .tags .now) 0 1 (a .buffer .now) outcome)
 
 pub build-without-groups-spec : {M : Type 1} → statement M

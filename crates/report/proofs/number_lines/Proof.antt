@@ -1,10 +1,10 @@
--- `cases_boundary::number_lines` is safe and ends: each line lies within the buffer, whose length stays. Assumes nothing.
+-- `report::number_lines` is safe and ends: each line lies within the buffer, whose length stays. Assumes nothing.
 use borrow.Author.Needs.{needs}
 use mathlib.Core.Path.{_≡_}
 use Prim.Native.Nat.{_-_, _≤_}
 use lib.ListN.{length}
-use Rattle.cases_boundary.proofs.number_lines.Statement.{statement}
-use Rattle.cases_boundary.proofs.number_lines.Tie as tie
+use Rattle.report.proofs.number_lines.Statement.{statement}
+use Rattle.report.proofs.number_lines.Tie as tie
 
 abbrev Inv-loop : tie.InvT-loop
 Inv-loop text₀ at₀ tag₀ text at tag = (length text ≡ length text₀) × (at ≤ length text)

@@ -1,0 +1,46 @@
+-- The order of building's refusals, each where the next one is due too, by computation; of 10 and 7, `BuildingLaws.seven-decides` says
+-- it. Assumes nothing.
+use mathlib.Core.Path.{_≡_, refl}
+use mathlib.Core.List.{List, [], _∷_}
+use mathlib.Core.Option.{orElse}
+use Prim.Native.Nat.{ℕ, suc}
+use lib.ListN.{replicate}
+use Rattle.refusal.specs.Limits.{tagsMax, groupMax, outside}
+use Rattle.refusal.specs.Outcome.{refused}
+use Rattle.lists.specs.First.{first, metAt}
+use Rattle.lists.specs.UpTo.{upTo}
+use Rattle.refusal.specs.Checks.{met, inOrder}
+use Rattle.group.specs.Ascending.{limitCheck, notAbove, ascendingCheck}
+use Rattle.image.specs.Sheet.{imageLength}
+use Rattle.numbering.specs.Building.{earlierChecks, buildingChecks, buildingOf}
+
+-- `unfolding computed` opens every definition that these compute through.
+computed : ℕ
+unfolding orElse outside first metAt upTo met inOrder limitCheck notAbove ascendingCheck imageLength
+    earlierChecks buildingChecks buildingOf
+computed = 0
+
+-- One tag 4,097 times, which is too many tags, and not ascending.
+abbrev tooMany : List ℕ
+tooMany = replicate (suc tagsMax) 7
+
+eight-before-four : buildingOf [] 0 0 0 ≡ refused 8 0
+unfolding computed
+eight-before-four = refl
+
+four-before-five : buildingOf tooMany 1 0 0 ≡ refused 4 0
+unfolding computed
+four-before-five = refl
+
+five-before-six : buildingOf tooMany 1 1 0 ≡ refused 5 0
+unfolding computed
+five-before-six = refl
+
+six-before-nine : buildingOf (5 ∷ 5 ∷ []) 1 1 0 ≡ refused 6 1
+unfolding computed
+six-before-nine = refl
+
+-- The tags 0 to 24 in one group, which are too many for it.
+nine-before-ten : buildingOf (upTo (suc groupMax) (λ t. t)) 1 1 0 ≡ refused 9 0
+unfolding computed
+nine-before-ten = refl
