@@ -15,22 +15,13 @@ use Rattle.building.specs.ArraysLaws.{admitted-groups, admitted-count, p
 use borrow.Author.Needs.{needs}
 use Rattle.building.proofs.build_admitted.Statement.{statement}
 use Rattle.building.proofs.build_admitted.Tie as tie
-use Rattle.building.proofs.build_admitted.Reads as reads
-use Rattle.building.proofs.build_admitted.Lts as lts
-use Rattle.building.proofs.build_ordered.Reads as build-reads
-use Rattle.building.proofs.refuse.Reads as refuse-reads
-use Rattle.order.proofs.order_by_group.Reads as order-reads
-
-abbrev claims : lts.Claims
-claims =
-    (order-reads.Asked, order-reads.Learnt, refuse-reads.Asked, refuse-reads.Learnt, build-reads.Asked, build-reads.Learnt)
 
 -- Where the function begins, and where the tags are ordered.
 abbrev Entry : Type 0
-Entry = lts.Start claims reads.Pre reads.Post
+Entry = tie.Start
 
 abbrev Ordered : Type 0
-Ordered = lts.After-enum-told claims reads.Pre reads.Post
+Ordered = tie.After-enum-told
 
 abbrev entry : Ordered → Entry
 entry c = c .before .before .before .before .before .before .before
@@ -96,8 +87,9 @@ build-ordered-requires c κs =
     let told = c .before .before .before in
     let start = entry told in
     let a = start .args in
+    let small = sym (told .before .before .order-by-group .ensures .0) ∙ ap firstMeaning (told .enum-told .given .1) in
     record {
-      passes = passed-10 (start .pre) (sym (told .before .before .order-by-group .ensures .0) ∙ ap firstMeaning (told .enum-told .given .1));
+      passes = passed-10 (start .pre) small;
       sorted =
           sorted-of-ordered (a .groups) (a .tags .now) (replicate groupsMax 0) (legal start .0)
           (legal start .1) (replicate tagsMax 0) (ends-are told) (ordered-are told) (admitted-count (start .pre));

@@ -13,19 +13,10 @@ use Rattle.checking.specs.Steps.{faultOutcome}
 use Rattle.checking.specs.StepsLaws.{regular-of, numbers-faulty, numbers-slots}
 use Rattle.checking.proofs.check_cells.Statement.{statement}
 use Rattle.checking.proofs.check_cells.Tie as tie
-use Rattle.checking.proofs.check_cells.Reads as reads
-use Rattle.checking.proofs.check_cells.Lts as lts
-use Rattle.checking.proofs.faulty_group.Reads as faulty-group
-use Rattle.checking.proofs.refused.Reads as refused
-use Rattle.slots.proofs.slot_fault.Reads as slot-fault
 
 -- Where the slots are walked.
 abbrev Walked : Type 0
-Walked =
-    lts.After-slot-fault
-    (faulty-group.Asked, faulty-group.Learnt, refused.Asked, refused.Learnt, slot-fault.Asked, slot-fault.Learnt)
-    reads.Pre
-    reads.Post
+Walked = tie.After-slot-fault
 
 abbrev cells : Walked → View
 cells c =

@@ -11,20 +11,16 @@ use Rattle.slots.specs.EitherLaws.{either-of-zero, zero-of-either, eithe
 use Rattle.slots.specs.SlotLaws.{candidateAt, Examined, own-below, slot-misplaced, other-within, slot-repeated, slot-sound}
 use Rattle.slots.proofs.fault_at.Statement.{statement}
 use Rattle.slots.proofs.fault_at.Tie as tie
-use Rattle.slots.proofs.fault_at.Reads as reads
-use Rattle.slots.proofs.fault_at.Lts as lts
-use Rattle.hash.proofs.group_of.Reads as group-of-reads
-use Rattle.hash.proofs.place_of.Reads as place-of-reads
 
 -- The function's entry; where both slots of the tag are computed, and its group; and where the slot is known to be one of the two.
 abbrev Entry : Type 0
-Entry = lts.Start (place-of-reads.Asked, place-of-reads.Learnt, group-of-reads.Asked, group-of-reads.Learnt) reads.Pre reads.Post
+Entry = tie.Start
 
 abbrev Hashed : Type 0
-Hashed = lts.After-group-of (place-of-reads.Asked, place-of-reads.Learnt, group-of-reads.Asked, group-of-reads.Learnt) reads.Pre reads.Post
+Hashed = tie.After-group-of
 
 abbrev Placed : Type 0
-Placed = lts.Else2 (place-of-reads.Asked, place-of-reads.Learnt, group-of-reads.Asked, group-of-reads.Learnt) reads.Pre reads.Post
+Placed = tie.Else2
 
 abbrev start : Entry → ℕ
 start e = getD (e .args .starts .now) (e .args .g) 0

@@ -16,10 +16,6 @@ use Rattle.slots.specs.FaultLaws.{Walked, walk-start, walk-found, walk-r
 use Rattle.slots.specs.SlotLaws.{in-group}
 use Rattle.slots.proofs.slot_fault.Statement.{statement}
 use Rattle.slots.proofs.slot_fault.Tie as tie
-use Rattle.slots.proofs.slot_fault.Reads as reads
-use Rattle.slots.proofs.slot_fault.Lts as lts
-use Rattle.slots.proofs.fault_at.Reads as fault-at-reads
-use Rattle.slots.proofs.or_repeated.Reads as or-repeated-reads
 
 -- The walk has come to slot j, of group g.
 record At (starts seeds tags : List ℕ) (groups : ℕ) (fault : SlotFault) (g j : ℕ) : Type 0 where
@@ -44,13 +40,11 @@ abbrev μ-loop : tie.MeasureT-loop
 -- At a group, and at a slot of it.
 abbrev Group : Type 0
 Group =
-    lts.In-loop (fault-at-reads.Asked, fault-at-reads.Learnt, or-repeated-reads.Asked, or-repeated-reads.Learnt)
-    reads.Pre reads.Post Inv-loop2 μ-loop2 Inv-loop μ-loop
+    tie.In-loop Inv-loop2 μ-loop2 Inv-loop μ-loop
 
 abbrev Slot : Type 0
 Slot =
-    lts.At-loop2 (fault-at-reads.Asked, fault-at-reads.Learnt, or-repeated-reads.Asked, or-repeated-reads.Learnt)
-    reads.Pre reads.Post Inv-loop2 μ-loop2 Inv-loop μ-loop
+    tie.At-loop2 Inv-loop2 μ-loop2 Inv-loop μ-loop
 
 abbrev view : Group → View
 view c = let a = c .before .before .args in cellsView (a .starts .now) (a .seeds .now) (a .tags .now) (a .groups)
