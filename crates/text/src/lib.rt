@@ -4,12 +4,13 @@ use columns::Fours;
 use refusal::First;
 ghost use mathlib.Core.Path.{_≡_};
 ghost use mathlib.Core.Bool.{cond};
-ghost use mathlib.Core.List.{[], _∷_, _++_};
+ghost use mathlib.Core.List.{[], _∷_};
 ghost use Prim.Native.Nat.{_+_, _*_, _%_, _≤_, _<_};
 ghost use lib.Dec.{eqb, ltb};
 ghost use lib.ListN.{length, take, drop};
 ghost use Rattle.refusal.specs.Limits.{tagEnd, tagsMax};
 ghost use Rattle.lists.specs.First.{first};
+ghost use Rattle.lists.specs.Written.{writtenAt};
 ghost use Rattle.refusal.specs.Answer.{firstMeaning};
 ghost use Rattle.columns.specs.Columns.{columnOf, leadingFrom};
 ghost use Rattle.text.specs.Figure.{figure};
@@ -144,7 +145,7 @@ fn write_figure(s: &mut [u8], n: u64)
 // Writes the figure of n into a field of so many columns; the bytes before and after it stay.
 pub fn write_field(buffer: &mut [u8], at: usize, width: usize, n: u64)
     requires { ⌜ at + width ≤ length (now buffer) ⌝ }
-    ensures bytes { λ _. ⌜ now (buffer .exit) ≡ take at (now (buffer .entry)) ++ figure width n ++ drop (at + width) (now (buffer .entry)) ⌝ }
+    ensures bytes { λ _. ⌜ now (buffer .exit) ≡ writtenAt at (figure width n) (now (buffer .entry)) ⌝ }
 {
     let end = at + width;
     write_figure(&mut buffer[at..end], n);
@@ -298,8 +299,7 @@ pub fn read_list_line(bytes: &[u8], at: usize) -> Tag
 // Writes a line of two numbers; the bytes before and after it stay.
 pub fn write_pair_line(buffer: &mut [u8], at: usize, a: u32, b: u32)
     requires { ⌜ at + lineLength ≤ length (now buffer) ⌝ }
-    ensures bytes { λ _. ⌜ now (buffer .exit)
-        ≡ take at (now (buffer .entry)) ++ pairLine a b ++ drop (at + lineLength) (now (buffer .entry)) ⌝ }
+    ensures bytes { λ _. ⌜ now (buffer .exit) ≡ writtenAt at (pairLine a b) (now (buffer .entry)) ⌝ }
 {
     write_field(buffer, at, 5, a as u64);
     write_field(buffer, at + 5, 5, b as u64);
@@ -309,7 +309,7 @@ pub fn write_pair_line(buffer: &mut [u8], at: usize, a: u32, b: u32)
 // Writes the figure of a tag in ten columns; the bytes before and after it stay. Most tags have nine digits or ten.
 fn write_tag(buffer: &mut [u8], at: usize, t: u32)
     requires { ⌜ at + 10 ≤ length (now buffer) ⌝ }
-    ensures bytes { λ _. ⌜ now (buffer .exit) ≡ take at (now (buffer .entry)) ++ figure 10 t ++ drop (at + 10) (now (buffer .entry)) ⌝ }
+    ensures bytes { λ _. ⌜ now (buffer .exit) ≡ writtenAt at (figure 10 t) (now (buffer .entry)) ⌝ }
 {
     if t < 100000000 {
         write_field(buffer, at, 10, t as u64);
@@ -322,8 +322,7 @@ fn write_tag(buffer: &mut [u8], at: usize, t: u32)
 // Writes a line of one tag; the bytes before and after it stay.
 pub fn write_tag_line(buffer: &mut [u8], at: usize, t: u32)
     requires { ⌜ at + lineLength ≤ length (now buffer) ⌝ }
-    ensures bytes { λ _. ⌜ now (buffer .exit)
-        ≡ take at (now (buffer .entry)) ++ tagLine t ++ drop (at + lineLength) (now (buffer .entry)) ⌝ }
+    ensures bytes { λ _. ⌜ now (buffer .exit) ≡ writtenAt at (tagLine t) (now (buffer .entry)) ⌝ }
 {
     write_tag(buffer, at, t);
     buffer[at + 10] = b'\n';
