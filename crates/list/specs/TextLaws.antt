@@ -15,7 +15,7 @@ use Rattle.list.specs.Reading.{malformed, lineCount, tagCount, tagsFrom,
 use Rattle.list.specs.ReadingLaws.{header-well, line-well, read-answered}
 use Rattle.list.specs.Text.{textOf}
 
-tag-lines : (tags : List ℕ) → Lines (map tagLine tags)
+tag-lines : (tags : List ℕ) → Lines lineLength (map tagLine tags)
 unfolding Lines
 tag-lines [] = tt
 tag-lines (t ∷ ts) = (tagLine-length t, tag-lines ts)
@@ -40,13 +40,13 @@ tags-from (t ∷ ts) text k reads =
 
 module _ (b l : ℕ) (tags : List ℕ) (b-fits : b < 10 ^ 5) (l-fits : l < 10 ^ 5)
     (words : (i : ℕ) → i < length tags → getD tags i 0 < tagEnd) where
-  text-lines : Lines (pairLine b l ∷ map tagLine tags)
+  text-lines : Lines lineLength (pairLine b l ∷ map tagLine tags)
   unfolding Lines
   text-lines = (pairLine-length b l, tag-lines tags)
 
   text-length : length (textOf b l tags) ≡ lineLength * (1 + length tags)
   unfolding textOf
-  text-length = flatten-length (pairLine b l ∷ map tagLine tags) text-lines ∙ omega (arith, length-map tags tagLine)
+  text-length = flatten-length lineLength (pairLine b l ∷ map tagLine tags) text-lines ∙ omega (arith, length-map tags tagLine)
 
   header-reads : listHeader (lineAt 0 (textOf b l tags)) ≡ some (b, l)
   unfolding textOf

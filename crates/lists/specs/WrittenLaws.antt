@@ -33,16 +33,18 @@ pub written-next : (at end : ℕ) (piece more bytes : List ℕ) → end ≡ at +
     → writtenAt end more (writtenAt at piece bytes) ≡ writtenAt at (piece ++ more) bytes
 unfolding writtenAt
 written-next at end piece more bytes place le =
-    let front : length (take at bytes ++ piece) ≡ at + length piece = simp (length-append, length-take-le at bytes le) in
-    let sum : at + length piece + length more ≡ at + length (piece ++ more) = omega (arith, length-append piece more) in
+    let front = take at bytes ++ piece in
+    let long : length front ≡ at + length piece = simp (length-append, length-take-le at bytes le) in
     let rest = drop (at + length piece) bytes in
-    let back : drop (at + length piece + length more) (take at bytes ++ piece ++ rest) ≡ drop (at + length (piece ++ more)) bytes =
-    rw front at (drop-append-add (take at bytes ++ piece) rest (length more)) ∙ drop-drop (length more) (at + length piece) bytes ∙ rw sum in
-    rw (place, take-at (take at bytes ++ piece) rest (at + length piece) front, back, append-assoc (take at bytes) piece more)
+    let sum : at + length piece + length more ≡ at + length (piece ++ more) = omega (arith, length-append piece more) in
+    let back : drop (at + length piece + length more) (front ++ rest) ≡ drop (at + length (piece ++ more)) bytes =
+    rw long at (drop-append-add front rest (length more)) ∙ drop-drop (length more) (at + length piece) bytes ∙ rw sum in
+    rw (place, take-at front rest (at + length piece) long, back, append-assoc (take at bytes) piece more)
 
 -- So is a byte stored there.
 pub written-byte : (at end : ℕ) (piece bytes : List ℕ) (byte : ℕ) → end ≡ at + length piece → end < length bytes
     → set (writtenAt at piece bytes) end byte ≡ writtenAt at (piece ++ (byte ∷ [])) bytes
 written-byte at end piece bytes byte place room =
     let long = written-length at piece bytes (omega arith) in
-    written-stores end (byte ∷ []) (writtenAt at piece bytes) (omega arith) ∙ written-next at end piece (byte ∷ []) bytes place (omega arith)
+    written-stores end (byte ∷ []) (writtenAt at piece bytes) (omega arith)
+    ∙ written-next at end piece (byte ∷ []) bytes place (omega arith)

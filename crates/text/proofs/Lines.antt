@@ -3,7 +3,7 @@ use mathlib.Core.Path.{_≡_, refl, sym, _∙_, ap}
 use mathlib.Core.Bool.{Bool, true, false, cond}
 use mathlib.Core.List.{List, [], _∷_}
 use mathlib.Core.Option.{Option, none, some, Option·none-ne-some, Option·some-injective}
-use Prim.Native.Nat.{ℕ, _+_, _*_, _%_, _≤_, _<_}
+use Prim.Native.Nat.{ℕ, suc, _+_, _*_, _%_, _≤_, _<_}
 use native.Mathlib.Omega.{arith}
 use lib.Dec.{eqb}
 use lib.ListN.{length, getD, take, drop, length-take, length-drop}
@@ -12,22 +12,26 @@ use borrow.Author.Tests.{eq-eqb, eqb-true}
 use Rattle.columns.specs.Columns.{leadingFrom, both}
 use Rattle.columns.specs.ColumnsLaws.{leadingBehind, leading-append}
 use Rattle.text.specs.Field.{field}
-use Rattle.text.specs.Line.{ended, bothFields, pairOf, tagOf}
+use Rattle.text.specs.Line.{lineLength, ended, bothFields, pairOf, tagOf}
 use Rattle.text.specs.LineLaws.{ended-short, ended-whole}
 use Rattle.text.proofs.Leading.{leading-below, field-digit, field-ends, part-field}
 
 -- A line that the text cuts off is malformed.
-cut-off : (bytes : List ℕ) (at : ℕ) → length bytes < at + 11 → length (take 11 (drop at bytes)) ≡ 11 → ⊥
-cut-off bytes at h e = omega (arith, simp (length-take, length-drop) at e)
+cut-off : (columns : ℕ) (bytes : List ℕ) (at : ℕ) → length bytes < at + suc columns
+    → length (take (suc columns) (drop at bytes)) ≡ suc columns → ⊥
+cut-off columns bytes at h e = omega (arith, simp (length-take, length-drop) at e)
 
-module _ (bytes : List ℕ) (at : ℕ) (short : length bytes < at + 11) where
-  pub pair-short : pairOf (take 11 (drop at bytes)) ≡ none
-  unfolding pairOf
-  pair-short = rw (ended-short (take 11 (drop at bytes)) (cut-off bytes at short))
+module _ (bytes : List ℕ) (at : ℕ) (short : length bytes < at + lineLength) where
+  abbrev cut : List ℕ
+  cut = take lineLength (drop at bytes)
 
-  pub tag-short : tagOf (take 11 (drop at bytes)) ≡ none
-  unfolding tagOf
-  tag-short = rw (ended-short (take 11 (drop at bytes)) (cut-off bytes at short))
+  pub pair-short : pairOf cut ≡ none
+  unfolding pairOf ended
+  pair-short = rw (ended-short 10 cut (cut-off 10 bytes at short))
+
+  pub tag-short : tagOf cut ≡ none
+  unfolding tagOf ended
+  tag-short = rw (ended-short 10 cut (cut-off 10 bytes at short))
 
 -- Both numbers are there, or not.
 pub both-some : (o p : Option ℕ) {m n : ℕ} → some (m, n) ≡ both o p → (o ≡ some m) × (p ≡ some n)
@@ -56,12 +60,22 @@ end-of e h i j = (omega arith, omega arith)
 pub no-end : {byte feed x d : ℕ} → (x + 2608) % 65536 ≡ byte + 256 * feed → x < 65536 → 10 ≤ x → d < 10 → byte ≡ 48 + d → feed ≡ 10 → ⊥
 no-end e h i j k l = omega arith
 
-module _ (line : List ℕ) (whole : length line ≡ 11) where
+module _ (line : List ℕ) (whole : length line ≡ lineLength) where
   abbrev feed : ℕ
   feed = getD line 10 0
 
   ended-feed : feed ≡ 10 → ended line ≡ true
-  ended-feed e = ended-whole line whole ∙ eq-eqb feed 10 e
+  unfolding ended
+  ended-feed e = ended-whole 10 line whole ∙ eq-eqb feed 10 e
+
+  -- A line that is read only behind its line feed, and not there either.
+  none-read : {A : Type 0} (o : Option A) → (feed ≡ 10 → o ≡ none) → cond (ended line) o none ≡ none
+  unfolding ended
+  none-read o never = rw (ended-whole 10 line whole) (go (eqb feed 10) refl)
+    where
+      go : (b : Bool) → eqb feed 10 ≡ b → cond b o none ≡ none
+      go false e = refl
+      go true e = never (eqb-true feed 10 e)
 
   -- Two fields.
   pub pair-some : {m n x y : ℕ} → leadingFrom 0 (take 4 line) ≡ some m → leadingFrom 0 (take 4 (drop 5 line)) ≡ some n
@@ -83,7 +97,7 @@ module _ (line : List ℕ) (whole : length line ≡ 11) where
       → x < 10 → getD line 4 0 ≡ 48 + x → y < 10 → getD line 9 0 ≡ 48 + y → feed ≡ 10 → ⊥)
       → pairOf line ≡ none
   unfolding pairOf bothFields
-  pair-none never = rw (ended-whole line whole) (go (eqb feed 10) refl)
+  pair-none never = none-read _ (λ end. fields end (field 5 (take 5 line)) (field 5 (take 5 (drop 5 line))) refl refl)
     where
       fields : feed ≡ 10 → (o p : Option ℕ) → field 5 (take 5 line) ≡ o → field 5 (take 5 (drop 5 line)) ≡ p → bothFields o p ≡ none
       fields end none p f g = refl
@@ -92,10 +106,6 @@ module _ (line : List ℕ) (whole : length line ≡ 11) where
           let first = field-ends (take 4 line) (getD line 4 0) a (sym (part-field 4 0 line (omega arith)) ∙ f) in
           let second = field-ends (take 4 (drop 5 line)) (getD line 9 0) b (sym (part-field 4 5 line (omega arith)) ∙ g) in
           absurd (never _ _ _ _ (first .leads) (second .leads) (omega arith) (first .digit) (omega arith) (second .digit) end)
-
-      go : (b : Bool) → eqb feed 10 ≡ b → cond b (bothFields (field 5 (take 5 line)) (field 5 (take 5 (drop 5 line)))) none ≡ none
-      go false e = refl
-      go true e = fields (eqb-true feed 10 e) (field 5 (take 5 line)) (field 5 (take 5 (drop 5 line))) refl refl
 
   -- One field.
   pub tag-some : {n y : ℕ} → leadingFrom 0 (take 9 line) ≡ some n → getD line 9 0 ≡ 48 + y → y < 10 → feed ≡ 10
@@ -106,17 +116,13 @@ module _ (line : List ℕ) (whole : length line ≡ 11) where
 
   pub tag-none : ((n y : ℕ) → leadingFrom 0 (take 9 line) ≡ some n → y < 10 → getD line 9 0 ≡ 48 + y → feed ≡ 10 → ⊥) → tagOf line ≡ none
   unfolding tagOf
-  tag-none never = rw (ended-whole line whole) (go (eqb feed 10) refl)
+  tag-none never = none-read _ (λ end. columns end (field 10 (take 10 line)) refl)
     where
       columns : feed ≡ 10 → (o : Option ℕ) → field 10 (take 10 line) ≡ o → o ≡ none
       columns end none f = refl
       columns end (some t) f =
           let ends = field-ends (take 9 line) (getD line 9 0) t (sym (part-field 9 0 line (omega arith)) ∙ f) in
           absurd (never _ _ (ends .leads) (omega arith) (ends .digit) end)
-
-      go : (b : Bool) → eqb feed 10 ≡ b → cond b (field 10 (take 10 line)) none ≡ none
-      go false e = refl
-      go true e = columns (eqb-true feed 10 e) (field 10 (take 10 line)) refl
 
   -- Nine leading columns: eight, and one more.
   nine-columns : leadingFrom 0 (take 9 line) ≡ leadingBehind (leadingFrom 0 (take 8 line)) (getD line 8 0 ∷ [])

@@ -6,11 +6,11 @@ use native.Mathlib.Omega.{arith}
 use native.Mathlib.Numerals.{add-one}
 use lib.ListN.{length, getD, drop}
 use Rattle.text.specs.Line.{lineLength, pairLine, tagLine}
-use Rattle.text.specs.LineLaws.{flatten-length}
+use Rattle.text.specs.LineLaws.{upTo-lines, flatten-length}
 use Rattle.lists.specs.UpTo.{upTo}
 use Rattle.image.specs.Sheet.{bytesOf, imageLength}
 use Rattle.lists.specs.UpToLaws.{upTo-length, flatten-more}
-use Rattle.image.specs.SheetLaws.{upTo-lines, bytes-length}
+use Rattle.image.specs.SheetLaws.{bytes-length}
 use Rattle.numbering.specs.Parts.{partStart}
 use Rattle.write.specs.Stated.{statedSheet, statedLine, Writable}
 use Rattle.write.specs.StatedLaws.{line-length, line-group, line-slot, stated-bytes}
@@ -29,7 +29,8 @@ module _ (ends seeds slots : List ℕ) (groups count : ℕ) where
   -- The bytes of k lines.
   lines-length : (k : ℕ) → length (flatten (upTo k line)) ≡ lineLength * k
   lines-length k =
-      flatten-length (upTo k line) (upTo-lines k line (line-length ends seeds slots groups count)) ∙ rw (upTo-length k line)
+      flatten-length lineLength (upTo k line) (upTo-lines lineLength k line (line-length ends seeds slots groups count))
+      ∙ rw (upTo-length k line)
 
   -- A line's own writer writes line k where it writes what line k is.
   pub line-written : (k : ℕ) (before : List ℕ) {piece after : List ℕ} → piece ≡ line k
