@@ -2,6 +2,7 @@
 use columns::Eight;
 use columns::Fours;
 use refusal::First;
+use refusal::TAG_CELLS;
 ghost use mathlib.Core.Path.{_≡_};
 ghost use mathlib.Core.Bool.{cond};
 ghost use mathlib.Core.List.{[], _∷_};
@@ -21,9 +22,6 @@ ghost use Rattle.text.specs.Answer.{fieldMeaning, pairMeaning, tagMeanin
 
 // Every line is ten columns and a line feed.
 pub const LINE_LENGTH: usize = 11;
-
-// Cells for the tags of a list, or of an image's slots.
-pub const TAG_CELLS: usize = refusal::TAGS_MAX;
 
 // What a field reads as.
 pub enum Field {
@@ -230,7 +228,7 @@ pub fn read_tag_lines(bytes: &[u8], from: usize, end: usize, cells: &mut [u32; T
 {
     let mut k = from;
     while k < end {
-        let at = 11 * k;
+        let at = LINE_LENGTH * k;
         let after = at + LINE_LENGTH;
         let Tag::Number(t) = tag_in(&bytes[at..after]) else {
             return First::At(k);

@@ -1,18 +1,17 @@
 -- `text::read_tag_lines` meets its contract: each line that the loop has passed is a tag's, and its tag is stored where there is
 -- a cell for it. Assumes nothing.
 use borrow.Author.Needs.{needs}
-use mathlib.Core.Path.{_≡_, sym}
+use mathlib.Core.Path.{_≡_, refl, sym, _∙_}
 use mathlib.Core.Logic.{inl, inr, ⊎-elim}
 use mathlib.Core.List.{List}
 use Prim.Native.Nat.{ℕ, _+_, _*_, _-_}
 use native.Mathlib.Omega.{arith}
 use lib.ListN.{take, drop}
-use lib.Dec.{ltb}
-use Rattle.refusal.specs.Limits.{tagEnd}
 use Rattle.lists.specs.SearchLaws.{searched-found, searched-done}
 use Rattle.text.specs.declared.Tag.{Tag}
 use Rattle.text.specs.Answer.{tagMeaning}
-use Rattle.text.specs.Line.{lineAt, tagOf, within}
+use Rattle.text.specs.Line.{lineLength, lineAt}
+use Rattle.text.specs.LineLaws.{line-reads}
 use Rattle.text.specs.TagLines.{tagIn, noTagFrom}
 use Rattle.text.specs.TagLinesLaws.{line-no-tag}
 use Rattle.text.proofs.Parts.{part-whole}
@@ -27,11 +26,11 @@ abbrev μ-loop : tie.MeasureT-loop
 μ-loop bytes from end cells₀ k₀ cells k = end - k
 
 -- What the reader of a line, lent its part of the text, says of line k.
-line-reads : (bytes : List ℕ) (k : ℕ) {answer case : Tag}
-    → tagMeaning answer ≡ within (λ t. ltb t tagEnd) (tagOf (take (11 * k + 11 - 11 * k) (drop (11 * k) bytes))) → answer ≡ case
+tag-reads : (bytes : List ℕ) (k : ℕ) {answer case : Tag}
+    → tagMeaning answer ≡ tagIn (take (lineLength * k + lineLength - lineLength * k) (drop (lineLength * k) bytes)) → answer ≡ case
     → tagIn (lineAt k bytes) ≡ tagMeaning case
-unfolding tagIn lineAt
-line-reads bytes k promised told = rw (← told, ← part-whole bytes (11 * k) 11) (sym promised)
+tag-reads bytes k promised told =
+    line-reads tagMeaning tagIn bytes k k (promised ∙ rw (part-whole bytes (lineLength * k) lineLength)) told refl
 
 loop-holds : tie.Need-loop-holds Inv-loop μ-loop
 loop-holds c = examined-start _ _ _ _ (c .before .pre .0 .0)
@@ -61,6 +60,7 @@ enum-told : tie.Need-enum-told Inv-loop μ-loop
 enum-told c = search needs
 
 returns : tie.Need-returns Inv-loop μ-loop
+unfolding tagIn
 returns c =
     let read = c .before .before in
     let loop = read .before .before .before in
@@ -68,7 +68,7 @@ returns c =
     let a = start .args in
     let bytes = a .bytes .now in
     let inv = loop .loop .inv in
-    let reads = line-reads bytes (loop .loop .k) (read .tag-in .ensures) (c .enum-told .given .1) in
+    let reads = tag-reads bytes (loop .loop .k) (read .tag-in .ensures) (c .enum-told .given .1) in
     let found =
     searched-found (noTagFrom (a .from) bytes) (a .from) (a .end) _ (inv .searched) (read .before .before .loop-test .taken)
     (line-no-tag (a .from) bytes (loop .loop .k) (inv .searched .above) reads) in
@@ -93,6 +93,7 @@ loop-less : tie.Need-loop-less Inv-loop μ-loop
 loop-less c = search needs
 
 loop-again : tie.Need-loop-again Inv-loop μ-loop
+unfolding tagIn
 loop-again c =
     let told = c .before .before in
     let read = told .before .before in
@@ -101,7 +102,7 @@ loop-again c =
     let a = start .args in
     let bytes = a .bytes .now in
     let inv = loop .loop .inv in
-    let reads = line-reads bytes (loop .loop .k) (read .tag-in .ensures) (told .t .given .1) in
+    let reads = tag-reads bytes (loop .loop .k) (read .tag-in .ensures) (told .t .given .1) in
     let long = start .pre .1 in
     examined-turn inv (read .before .before .loop-test .taken) reads
     (⊎-elim (λ q. inl (omega (arith, q .0 .taken, long), q .1)) (λ q. inr (omega (arith, q .0 .left, long), q .1)) (c .if1 .came))
