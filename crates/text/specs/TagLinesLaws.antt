@@ -3,12 +3,12 @@ use mathlib.Core.Path.{_≡_, refl, sym, _∙_, ap}
 use mathlib.Core.Bool.{true, false, not}
 use mathlib.Core.List.{List, [], _∷_, _++_}
 use mathlib.Core.Option.{none, some, Option·getD}
-use Prim.Native.Nat.{ℕ, zero, suc, _+_, _-_, _≤_, _<_, min}
+use Prim.Native.Nat.{ℕ, zero, suc, _+_, _≤_, _<_, min}
 use native.Mathlib.Omega.{arith}
 use native.Mathlib.Nat.{add-zero}
 use native.Mathlib.Numerals.{add-one}
 use lib.ListN.{length, getD, set, take, drop, length-append, length-drop, List·getD-append}
-use lib.Seq.{drop-cons, take-at, set-at, append-snoc, getD-append-add, getD-drop}
+use lib.Seq.{drop-cons, take-at, set-at, append-snoc}
 use borrow.Author.Tests.{le-leb, lt-leb}
 use Rattle.lists.specs.First.{isSome}
 use Rattle.text.specs.Line.{lineAt, slotLine, listLine}
@@ -104,19 +104,9 @@ module _ (k : ℕ) (bytes before : List ℕ) where
   pub stored-tags : (n : ℕ) → n ≤ length before → take n (tagsStored n k bytes before) ≡ tagsOn n k bytes
   stored-tags n fits = rw (stored-fits n fits) (take-at (tagsOn n k bytes) (drop n before) n (tagsOn-length n k bytes))
 
-  -- Cell by cell: the tag of its line, or what was there.
-  module _ (n : ℕ) (fits : n ≤ length before) (j : ℕ) where
-    pub stored-holds : j < n → getD (tagsStored n k bytes before) j 0 ≡ Option·getD (tagIn (lineAt (k + j) bytes)) 0
-    stored-holds lt =
-        rw (stored-fits n fits)
-        (List·getD-append (tagsOn n k bytes) (drop n before) 0 j (omega (arith, tagsOn-length n k bytes)) ∙ tagsOn-at n k j bytes lt)
-
-    pub stored-kept : n ≤ j → getD (tagsStored n k bytes before) j 0 ≡ getD before j 0
-    stored-kept ge =
-        let rest : j ≡ length (tagsOn n k bytes) + (j - n) = omega (arith, tagsOn-length n k bytes) in
-        let back : n + (j - n) ≡ j = omega arith in
-        ap (λ (l : List ℕ). getD l j 0) (stored-fits n fits)
-        ∙ ap (λ (i : ℕ). getD (tagsOn n k bytes ++ drop n before) i 0) rest
-        ∙ getD-append-add (tagsOn n k bytes) (drop n before) (j - n) 0
-        ∙ getD-drop n before (j - n) 0
-        ∙ ap (λ (i : ℕ). getD before i 0) back
+  -- A cell holds the tag of its line.
+  pub stored-holds : (n : ℕ) → n ≤ length before → (j : ℕ) → j < n
+      → getD (tagsStored n k bytes before) j 0 ≡ Option·getD (tagIn (lineAt (k + j) bytes)) 0
+  stored-holds n fits j lt =
+      rw (stored-fits n fits)
+      (List·getD-append (tagsOn n k bytes) (drop n before) 0 j (omega (arith, tagsOn-length n k bytes)) ∙ tagsOn-at n k j bytes lt)
