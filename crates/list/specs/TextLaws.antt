@@ -78,6 +78,6 @@ module _ (b l : ℕ) (tags : List ℕ) (b-fits : b < 10 ^ 5) (l-fits : l < 10 ^ 
   unfolding listedIn lineCount
   read-back cells few room =
       let text = textOf b l tags in
-      read-answered text cells (omega (arith, text-length)) (omega (arith, text-length))
+      read-answered text cells (record { long = omega (arith, text-length); even = omega (arith, text-length) })
       (first-out (malformed text) (lineCount text) (λ k lt. text-well k (omega (arith, text-length)))) (rw count-is few) (rw count-is room)
       ∙ rw (header-reads, count-is, tags-from tags text 1 tag-reads)
