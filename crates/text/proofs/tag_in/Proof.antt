@@ -3,7 +3,7 @@ use borrow.Author.Needs.{needs}
 use mathlib.Core.Path.{_≡_, sym, _∙_, ap}
 use mathlib.Core.List.{List}
 use mathlib.Core.Option.{some}
-use Prim.Native.Nat.{ℕ, _+_, _*_}
+use Prim.Native.Nat.{ℕ, _+_, _*_, _<_}
 use native.Mathlib.Omega.{arith}
 use lib.ListN.{length, take}
 use borrow.Author.Tests.{lt-ltb, le-ltb}
@@ -49,6 +49,9 @@ first-nine c = c .before .before .before .before .nine .given .0 .0
 
 leads : (c : tie.After-end-digit) → some (first-nine c) ≡ leadingFrom 0 (take 9 (line (eight-read (nine-read c))))
 leads c = nine (nine-read c) (c .before .before .before .before .nine .given .1)
+
+below : (c : tie.After-end-digit) → first-nine c < 1000000000
+below c = let read = eight-read (nine-read c) in nine-below (line read) (whole read) (leads c)
 
 -- Where they are a digit and a line feed: the line reads as its number.
 abbrev number : tie.Else1 → ℕ
@@ -114,13 +117,13 @@ returns-3 c =
     rw (tag-none (line read) (whole read) (λ n y columns end. no-ending (line read) other (omega arith) (c .if1 .taken) end))
 
 mul-t : tie.Need-mul-t
-mul-t c = let read = eight-read (nine-read (c .before)) in omega (arith, nine-below (line read) (whole read) (leads (c .before)))
+mul-t c = omega (arith, below (c .before))
 
 cast-t : tie.Need-cast-t
 cast-t c = search needs
 
 add-t : tie.Need-add-t
-add-t c = let read = eight-read (nine-read (c .before)) in omega (arith, nine-below (line read) (whole read) (leads (c .before)))
+add-t c = omega (arith, below (c .before))
 
 returns-4 : tie.Need-returns-4
 unfolding within
