@@ -8,11 +8,11 @@ use native.Mathlib.Omega.{arith}
 use lib.Dec.{ltb}
 use lib.ListN.{length, drop}
 use borrow.Author.Tests.{ltb-true, ltb-false, lt-ltb, le-ltb}
-use Rattle.lists.specs.Written.{writtenAt}
-use Rattle.lists.specs.WrittenLaws.{written-first}
 use Rattle.refusal.specs.Limits.{tagsMax, groupsMax, limitMax, outside}
 use Rattle.refusal.specs.LimitsLaws.{inside}
 use Rattle.refusal.specs.Outcome.{Outcome, answered, refused, answeredBy, followedBy}
+use Rattle.lists.specs.Written.{writtenAt}
+use Rattle.lists.specs.WrittenLaws.{written-first}
 use Rattle.text.specs.Line.{lineLength, pairLine}
 use Rattle.text.specs.LineLaws.{pairLine-length}
 use Rattle.list.specs.Reading.{Listed}
