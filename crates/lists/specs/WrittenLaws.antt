@@ -48,3 +48,10 @@ written-byte at end piece bytes byte place room =
     let long = written-length at piece bytes (omega arith) in
     written-stores end (byte ∷ []) (writtenAt at piece bytes) (omega arith)
     ∙ written-next at end piece (byte ∷ []) bytes place (omega arith)
+
+-- At the front, one element more behind the first i.
+pub written-front : (front before : List ℕ) (i t : ℕ) → length front ≡ i → i < length before
+    → set (front ++ drop i before) i t ≡ front ++ (t ∷ []) ++ drop (i + 1) before
+written-front front before i t n lt =
+    let more = written-byte 0 i front before t (omega arith) lt in
+    rw (length-append, n) at (rw (written-first, written-first, n) at more)
