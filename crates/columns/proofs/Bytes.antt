@@ -1,6 +1,6 @@
 -- Packed bytes under a mask, byte by byte. Assumes nothing.
 use mathlib.Core.Path.{_≡_, refl, _∙_, ap}
-use mathlib.Core.List.{List, [], _∷_}
+use mathlib.Core.List.{List, [], _∷_, _++_}
 use Prim.Native.Nat.{ℕ, suc, _+_, _*_, _/_, _%_, _≤_, _<_}
 use native.Mathlib.Omega.{arith}
 use lib.Bits.{bitAnd, and-block, and-mask, and-high}
@@ -8,12 +8,8 @@ use lib.Dec.{lit<}
 use lib.ListN.{length, getD, take, drop}
 use lib.Seq.{drop-cons}
 use Rattle.digits.specs.Digits.{packed}
+use Rattle.digits.specs.DigitsLaws.{Below}
 use Rattle.columns.specs.Word.{each, low}
-
--- Every element is below a bound.
-unfoldable pub Below : ℕ → List ℕ → Type 0
-Below bound [] = Unit
-Below bound (x ∷ xs) = (x < bound) × Below bound xs
 
 -- Four bytes of a text, one by one.
 abbrev pub fourAt : List ℕ → ℕ → List ℕ
@@ -34,15 +30,10 @@ four-bytes-at s at h =
       three,
     )
 
-pub packed-same : (xs ys : List ℕ) → length xs ≡ length ys → Below 256 xs → Below 256 ys → packed xs ≡ packed ys → xs ≡ ys
-unfolding packed Below
-packed-same [] [] l h i e = refl
-packed-same [] (y ∷ ys) l h i e = absurd (omega arith)
-packed-same (x ∷ xs) [] l h i e = absurd (omega arith)
-packed-same (x ∷ xs) (y ∷ ys) l h i e =
-    let first : x ≡ y = omega (arith, h .0, i .0) in
-    let rest = packed-same xs ys (omega arith) (h .1) (i .1) (omega (arith, h .0, i .0)) in
-    rw (first, rest)
+-- Eight bytes of a line of bytes.
+pub eight-small : (line : List ℕ) (second : ℕ) → ((k : ℕ) → getD line k 0 < 256) → Below 256 (fourAt line 0 ++ fourAt line second)
+unfolding Below
+eight-small line second small = (small _, (small _, (small _, (small _, (small _, (small _, (small _, (small _, tt))))))))
 
 -- The lowest byte, and the bytes above it.
 pub and-byte : (x y a b : ℕ) → x < 256 → y < 256 → bitAnd (x + 256 * a) (y + 256 * b) ≡ bitAnd x y + 256 * bitAnd a b

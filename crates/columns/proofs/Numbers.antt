@@ -9,8 +9,9 @@ use lib.ListN.{length, getD, take, drop}
 use lib.Dec.{lit<}
 use borrow.Author.Tests.{eq-eqb, ne-eqb}
 use Rattle.digits.specs.Digits.{packed}
+use Rattle.digits.specs.DigitsLaws.{Below}
 use Rattle.columns.specs.Word.{each, low, valueBehind, numberIn, written, columnsRead}
-use Rattle.columns.proofs.Bytes.{Below, fourAt, four-bytes-at, low-packed, digits-only}
+use Rattle.columns.proofs.Bytes.{fourAt, four-bytes-at, eight-small, low-packed, digits-only}
 
 -- Digits d and e, with digits x above them: their pair is made where d stands, and the mask clears what comes beside it.
 pair : (d e x mask : ℕ) → d < 10 → e < 10 → x % 256 < 10
@@ -73,9 +74,15 @@ module _ (a b c d e f g h : ℕ)
       (lowest (10 * e + f) (10 * g + h + 65536 * 0) (omega arith))
       ∙ rw (four (10 * e + f) (10 * g + h) 0 0 (omega arith) (omega arith) (omega arith)) (omega (arith, and-zero-r 0)))
 
--- What the tests of the code say of eight bytes of a line in its word, and the numbers that it makes of them.
-module _ (line : List ℕ) (second carry word : ℕ) (near : 4 ≤ second) (room : second + 4 ≤ length line)
-    (small : (k : ℕ) → getD line k 0 < 256) (packs : word ≡ packed (take 4 line) + packed (take 4 (drop second line)) * 4294967296) where
+-- Eight bytes of a line in a word: the first four, and four from `second` on.
+pub record Packed (line : List ℕ) (second word : ℕ) : Type 0 where
+  pub near : 4 ≤ second
+  pub room : second + 4 ≤ length line
+  pub small : (k : ℕ) → getD line k 0 < 256
+  pub packs : word ≡ packed (take 4 line) + packed (take 4 (drop second line)) * 4294967296
+
+-- What the tests of the code say of them, and the numbers that it makes of them.
+module _ {line : List ℕ} {second word : ℕ} (p : Packed line second word) (carry : ℕ) where
   abbrev bytes : List ℕ
   bytes = fourAt line 0 ++ fourAt line second
 
@@ -85,20 +92,16 @@ module _ (line : List ℕ) (second carry word : ℕ) (near : 4 ≤ second) (room
   abbrev answer : Option (ℕ × ℕ)
   answer = columnsRead carry (take 4 line) (take 4 (drop second line))
 
-  bytes-small : Below 256 bytes
-  unfolding Below
-  bytes-small = (small _, (small _, (small _, (small _, (small _, (small _, (small _, (small _, tt))))))))
-
   answer-is : answer ≡ columnsRead carry (fourAt line 0) (fourAt line second)
-  answer-is = rw (four-bytes-at line 0 (omega arith), four-bytes-at line second room)
+  answer-is = rw (four-bytes-at line 0 (omega (arith, p .near, p .room)), four-bytes-at line second (p .room))
 
   word-is : word ≡ packed bytes
   unfolding packed
-  word-is = packs ∙ rw (four-bytes-at line 0 (omega arith), four-bytes-at line second room) (omega arith)
+  word-is = p .packs ∙ rw (four-bytes-at line 0 (omega (arith, p .near, p .room)), four-bytes-at line second (p .room)) (omega arith)
 
   digits-are : digits ≡ packed (low bytes)
   unfolding each
-  digits-are = rw word-is (low-packed bytes bytes-small)
+  digits-are = rw word-is (low-packed bytes (eight-small line second (p .small)))
 
   pub no-digits : (bitAnd (digits + 434041037028460038) 1157442765409226768 ≡ 0 → ⊥) → none ≡ answer
   unfolding written each columnsRead

@@ -6,15 +6,16 @@ use mathlib.Core.Option.{Option, none, some, Option·map, Option·none-ne-some}
 use Prim.Native.Nat.{ℕ, zero, suc, _+_, _*_, _-_, _/_, _%_, _≤_, _<_}
 use native.Mathlib.Omega.{arith}
 use lib.Bits.{bitAnd, and-block, and-le-r}
-use lib.Dec.{eqb, ltb, lit<}
+use lib.Dec.{eqb, lit<}
 use lib.ListN.{length, getD, take, drop}
 use lib.Seq.{take-add}
-use borrow.Author.Tests.{eq-eqb, ne-eqb, eqb-true, eqb-false, lt-ltb, ltb-true}
+use borrow.Author.Tests.{eq-eqb, ne-eqb, eqb-true, eqb-false, lt-ltb}
 use Rattle.digits.specs.Digits.{packed}
+use Rattle.digits.specs.DigitsLaws.{Below, packed-same}
 use Rattle.columns.specs.Columns.{columnOf, leadingFrom, both, foursIn}
+use Rattle.columns.specs.ColumnsLaws.{leading-first}
 use Rattle.columns.specs.Word.{each, low, valueBehind, numberIn, written, columnsRead}
-use Rattle.columns.proofs.Bytes.{Below, fourAt, four-bytes-at, packed-same, and-byte, bit-sixteen}
-use Rattle.columns.proofs.Bytes.{low-length, digits-only, digits-clear}
+use Rattle.columns.proofs.Bytes.{four-bytes-at, eight-small, and-byte, bit-sixteen, low-length, digits-only, digits-clear}
 
 -- The leading columns with these digits, behind those of v.
 unfoldable columnsFrom : ℕ → List ℕ → List ℕ
@@ -63,18 +64,9 @@ leading-only : (v n : ℕ) (bytes : List ℕ) → leadingFrom v bytes ≡ some n
 unfolding leadingFrom columnsFrom low Below
 leading-only v n [] e = (tt, refl)
 leading-only v n (byte ∷ bytes) e =
-    go (leading-only (v * 10 + byte % 16) n bytes) (ltb (byte % 16) 10)
-    (eqb byte (columnOf (v * 10 + byte % 16) (byte % 16))) refl refl
-  where
-    go : (leadingFrom (v * 10 + byte % 16) bytes ≡ some n → Below 10 (low bytes) × (bytes ≡ columnsFrom (v * 10 + byte % 16) (low bytes)))
-        → (p q : Bool) → ltb (byte % 16) 10 ≡ p → eqb byte (columnOf (v * 10 + byte % 16) (byte % 16)) ≡ q
-        → Below 10 (low (byte ∷ bytes)) × (byte ∷ bytes ≡ columnsFrom v (low (byte ∷ bytes)))
-    go ih true true f g =
-        let rest = ih (rw (f, g) at e) in
-        let first = eqb-true byte (columnOf (v * 10 + byte % 16) (byte % 16)) g in
-        ((ltb-true (byte % 16) 10 f, rest .0), cc)
-    go ih true false f g = absurd (Option·none-ne-some n (rw (f, g) at e))
-    go ih false q f g = absurd (Option·none-ne-some n (rw f at e))
+    let column = leading-first v byte bytes e in
+    let (digits, same) = leading-only (v * 10 + byte % 16) n bytes (column .rest) in
+    ((column .digit, digits), cc (column .byte-is, same))
 
 -- What is added to the digits of k columns and one: 127 above a 255 for each column before it.
 unfoldable pub carry : ℕ → ℕ
@@ -295,16 +287,13 @@ module _ (a b c d e f g h : ℕ) (small : Below 256 (a ∷ b ∷ c ∷ d ∷ e �
 
 -- The columns of a line.
 module _ (line : List ℕ) (small : (k : ℕ) → getD line k 0 < 256) where
-  small-at : (second : ℕ) → Below 256 (fourAt line 0 ++ fourAt line second)
-  unfolding Below
-  small-at second = (small _, (small _, (small _, (small _, (small _, (small _, (small _, (small _, tt))))))))
-
   pub line-fours : 9 ≤ length line → columnsRead 9223372034707292159 (take 4 line) (take 4 (drop 5 line)) ≡ foursIn line
   line-fours room =
-      rw (four-bytes-at line 0 (omega arith), four-bytes-at line 5 (omega arith)) (fours-leading _ _ _ _ _ _ _ _ (small-at 5))
+      rw (four-bytes-at line 0 (omega arith), four-bytes-at line 5 (omega arith)) (fours-leading _ _ _ _ _ _ _ _ (eight-small line 5 small))
 
   pub line-eight : 8 ≤ length line → (o : Option (ℕ × ℕ)) → o ≡ columnsRead 9223372036854775807 (take 4 line) (take 4 (drop 4 line))
       → Option·map (λ (x : ℕ × ℕ). x .0 * 10000 + x .1) o ≡ leadingFrom 0 (take 8 line)
   line-eight room o e =
-      rw (take-add 4 4 line, four-bytes-at line 0 (omega arith), four-bytes-at line 4 (omega arith))
-      (eight-leading _ _ _ _ _ _ _ _ (small-at 4) o (e ∙ rw (four-bytes-at line 0 (omega arith), four-bytes-at line 4 (omega arith))))
+      let first = four-bytes-at line 0 (omega arith) in
+      let last = four-bytes-at line 4 (omega arith) in
+      rw (take-add 4 4 line, first, last) (eight-leading _ _ _ _ _ _ _ _ (eight-small line 4 small) o (e ∙ rw (first, last)))

@@ -1,16 +1,17 @@
 -- Eight bytes, stored one behind another. Assumes nothing.
 use mathlib.Core.Path.{_≡_}
-use mathlib.Core.List.{List, [], _∷_, _++_}
+use mathlib.Core.List.{List, [], _∷_}
 use Prim.Native.Nat.{ℕ, suc, _+_, _≤_}
 use native.Mathlib.Omega.{arith}
-use lib.ListN.{length, set, take, drop}
-use lib.Seq.{sets-eq}
+use lib.ListN.{length, set}
+use Rattle.lists.specs.Written.{writtenAt}
+use Rattle.lists.specs.WrittenLaws.{written-stores}
 
 -- Eight bytes stored one behind another are a piece of eight bytes.
 pub eight-written : (bytes : List ℕ) (at a b c d e f g h : ℕ) → at + 8 ≤ length bytes
     → set (set (set (set (set (set (set (set bytes at a) (at + 1) b) (at + 2) c) (at + 3) d) (at + 4) e) (at + 5) f) (at + 6) g)
     (at + 7) h
-    ≡ take at bytes ++ (a ∷ b ∷ c ∷ d ∷ e ∷ f ∷ g ∷ h ∷ []) ++ drop (at + 8) bytes
+    ≡ writtenAt at (a ∷ b ∷ c ∷ d ∷ e ∷ f ∷ g ∷ h ∷ []) bytes
 eight-written bytes at a b c d e f g h room =
     let e1 : at + 1 ≡ suc at = omega arith in
     let e2 : at + 2 ≡ suc (suc at) = omega arith in
@@ -19,4 +20,4 @@ eight-written bytes at a b c d e f g h room =
     let e5 : at + 5 ≡ suc (suc (suc (suc (suc at)))) = omega arith in
     let e6 : at + 6 ≡ suc (suc (suc (suc (suc (suc at))))) = omega arith in
     let e7 : at + 7 ≡ suc (suc (suc (suc (suc (suc (suc at)))))) = omega arith in
-    rw (e1, e2, e3, e4, e5, e6, e7) (sets-eq (a ∷ b ∷ c ∷ d ∷ e ∷ f ∷ g ∷ h ∷ []) bytes at room)
+    rw (e1, e2, e3, e4, e5, e6, e7) (written-stores at (a ∷ b ∷ c ∷ d ∷ e ∷ f ∷ g ∷ h ∷ []) bytes room)

@@ -1,5 +1,5 @@
 -- The digits of a number, pair by pair, and the bytes of a packed word. Assumes nothing.
-use mathlib.Core.Path.{_≡_, refl}
+use mathlib.Core.Path.{_≡_, refl, sym, _∙_}
 use mathlib.Core.List.{List, [], _∷_, _++_}
 use Prim.Native.Nat.{ℕ, zero, suc, _+_, _*_, _/_, _%_, _<_}
 use native.Mathlib.Omega.{arith}
@@ -37,33 +37,37 @@ pub eight-digits : (a b c d : ℕ) → a < 100 → b < 100 → c < 100 → d < 1
 eight-digits a b c d h i j k =
     rw (digits-pair 6 ((a * 100 + b) * 100 + c) d k, digits-pair 4 (a * 100 + b) c j, digits-pair 2 a b i, two-digits a h)
 
--- Every element is a byte.
-unfoldable Bytes : List ℕ → Type 0
-Bytes [] = Unit
-Bytes (byte ∷ bytes) = (byte < 256) × Bytes bytes
+-- Every element is below a bound: bytes below 256.
+unfoldable pub Below : ℕ → List ℕ → Type 0
+Below bound [] = Unit
+Below bound (x ∷ xs) = (x < bound) × Below bound xs
 
-bytes-more : (xs : List ℕ) (b : ℕ) → Bytes xs → b < 256 → Bytes (xs ++ (b ∷ []))
-unfolding Bytes
-bytes-more [] b h j = (j, tt)
-bytes-more (x ∷ xs) b h j = (h .0, bytes-more xs b (h .1) j)
+below-more : (bound : ℕ) (xs : List ℕ) (x : ℕ) → Below bound xs → x < bound → Below bound (xs ++ (x ∷ []))
+unfolding Below
+below-more bound [] y h j = (j, tt)
+below-more bound (x ∷ xs) y h j = (h .0, below-more bound xs y (h .1) j)
 
-digits-bytes : (w n : ℕ) → Bytes (digits w n)
-unfolding Bytes digits
+digits-bytes : (w n : ℕ) → Below 256 (digits w n)
+unfolding Below digits
 digits-bytes zero n = tt
-digits-bytes (suc w) n = bytes-more (digits w (n / 10)) (48 + n % 10) (digits-bytes w (n / 10)) (omega arith)
+digits-bytes (suc w) n = below-more 256 (digits w (n / 10)) (48 + n % 10) (digits-bytes w (n / 10)) (omega arith)
 
 -- So many bytes of a word, the lowest first.
 unfoldable unpacked : ℕ → ℕ → List ℕ
 unpacked zero word = []
 unpacked (suc k) word = word % 256 ∷ unpacked k (word / 256)
 
-unpacked-packed : (bytes : List ℕ) → Bytes bytes → unpacked (length bytes) (packed bytes) ≡ bytes
-unfolding Bytes unpacked packed
+unpacked-packed : (bytes : List ℕ) → Below 256 bytes → unpacked (length bytes) (packed bytes) ≡ bytes
+unfolding Below unpacked packed
 unpacked-packed [] h = refl
 unpacked-packed (byte ∷ bytes) h =
     let low : (byte + 256 * packed bytes) % 256 ≡ byte = omega (arith, h .0) in
     let high : (byte + 256 * packed bytes) / 256 ≡ packed bytes = omega (arith, h .0) in
     rw (low, high, unpacked-packed bytes (h .1))
+
+-- A word packs no other bytes.
+pub packed-same : (xs ys : List ℕ) → length xs ≡ length ys → Below 256 xs → Below 256 ys → packed xs ≡ packed ys → xs ≡ ys
+packed-same xs ys l h i e = sym (unpacked-packed xs h) ∙ rw (l, e) (unpacked-packed ys i)
 
 -- The eight bytes of the word, as they are taken from it.
 pub word-bytes : (n word : ℕ) → word ≡ packed (digits 8 n)

@@ -1,8 +1,8 @@
 // Eight digits at once: a tag's last eight.
 ghost use mathlib.Core.Path.{_≡_};
-ghost use mathlib.Core.List.{_++_};
 ghost use Prim.Native.Nat.{_+_, _≤_, _<_};
-ghost use lib.ListN.{length, take, drop};
+ghost use lib.ListN.{length};
+ghost use Rattle.lists.specs.Written.{writtenAt};
 ghost use Rattle.digits.specs.Digits.{digits, packed};
 
 // The eight digits of n as characters, packed into one word: the first in the lowest byte.
@@ -25,7 +25,7 @@ fn eight_digits(n: u32) -> u64
 // Writes the eight digits of n, with zeros in front; the bytes before and after them stay.
 pub fn write_eight_digits(buffer: &mut [u8], at: usize, n: u32)
     requires { ⌜ (at + 8 ≤ length (now buffer)) × (n < 100000000) ⌝ }
-    ensures bytes { λ _. ⌜ now (buffer .exit) ≡ take at (now (buffer .entry)) ++ digits 8 n ++ drop (at + 8) (now (buffer .entry)) ⌝ }
+    ensures bytes { λ _. ⌜ now (buffer .exit) ≡ writtenAt at (digits 8 n) (now (buffer .entry)) ⌝ }
 {
     let word = eight_digits(n);
     buffer[at] = (word % 256) as u8;

@@ -2,22 +2,16 @@
 use mathlib.Core.Path.{_≡_, refl, _∙_, ap}
 use mathlib.Core.List.{List, []}
 use mathlib.Core.Option.{some}
-use Prim.Native.Nat.{ℕ, zero, suc, _+_, _*_, _^_, _≤_, _<_}
+use Prim.Native.Nat.{ℕ, suc, _+_, _*_, _^_, _≤_, _<_}
 use native.Mathlib.Omega.{arith}
 use lib.ListN.{length, length-append, List·getD-append}
 use lib.Seq.{getD-append-add}
 use Rattle.refusal.specs.Limits.{tagEnd, tagsMax, groupsMax, seedMax}
 use Rattle.text.specs.Line.{lineLength, lineAt, imageHeader, groupLine, slotLine}
 use Rattle.lists.specs.UpToLaws.{upTo-length, upTo-at}
-use Rattle.text.specs.LineLaws.{pairLine-length, tagLine-length, Lines, lines-append, flatten-length, line-flatten, image-header-line, group-line, slot-line}
+use Rattle.text.specs.LineLaws.{pairLine-length, tagLine-length, Lines, upTo-lines, lines-append, flatten-length, line-flatten, image-header-line, group-line, slot-line}
 use Rattle.lists.specs.UpTo.{upTo}
 use Rattle.image.specs.Sheet.{Sheet, headerLineOf, groupLineOf, slotLineOf, linesOf, bytesOf, imageLength, longestImage}
-
--- Each line of an image is a line.
-pub upTo-lines : (count : ℕ) (f : ℕ → List ℕ) → ((k : ℕ) → length (f k) ≡ lineLength) → Lines (upTo count f)
-unfolding upTo Lines
-upTo-lines zero f h = tt
-upTo-lines (suc count) f h = (h 0, upTo-lines count (λ k. f (suc k)) (λ k. h (suc k)))
 
 -- "The length is 11 × (1 + B + N), at most 50,699 bytes."
 pub image-longest : (groups count : ℕ) → groups ≤ groupsMax → count ≤ tagsMax → imageLength groups count ≤ longestImage
@@ -29,13 +23,14 @@ unfolding imageLength longestImage
 longest-is = refl
 
 module _ (s : Sheet) where
-  sheet-lines : Lines (linesOf s)
+  -- Each line of an image is a line.
+  sheet-lines : Lines lineLength (linesOf s)
   unfolding linesOf Lines
   sheet-lines = (
     pairLine-length (s .count) (s .groups),
-    lines-append (upTo (s .groups) (groupLineOf s)) (upTo (s .count) (slotLineOf s))
-        (upTo-lines (s .groups) (groupLineOf s) (λ g. pairLine-length (s .start g) (s .seed g)))
-        (upTo-lines (s .count) (slotLineOf s) (λ j. tagLine-length (s .slot j))),
+    lines-append lineLength (upTo (s .groups) (groupLineOf s)) (upTo (s .count) (slotLineOf s))
+        (upTo-lines lineLength (s .groups) (groupLineOf s) (λ g. pairLine-length (s .start g) (s .seed g)))
+        (upTo-lines lineLength (s .count) (slotLineOf s) (λ j. tagLine-length (s .slot j))),
   )
 
   sheet-count : length (linesOf s) ≡ 1 + s .groups + s .count
@@ -45,7 +40,7 @@ module _ (s : Sheet) where
   -- The image has the stated length.
   pub bytes-length : length (bytesOf s) ≡ imageLength (s .groups) (s .count)
   unfolding bytesOf imageLength
-  bytes-length = flatten-length (linesOf s) sheet-lines ∙ ap (λ (k : ℕ). lineLength * k) sheet-count
+  bytes-length = flatten-length lineLength (linesOf s) sheet-lines ∙ ap (λ (k : ℕ). lineLength * k) sheet-count
 
   -- Line k of an image is the line that was put there: line 0, line 1 + g, line 1 + B + j.
   pub header-at : lineAt 0 (bytesOf s) ≡ headerLineOf s

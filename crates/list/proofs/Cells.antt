@@ -6,7 +6,7 @@ use native.Mathlib.Omega.{arith}
 use native.Mathlib.Numerals.{add-one}
 use lib.ListN.{length, getD, set, take, drop, length-set}
 use lib.Seq.{take-suc, length-take-le}
-use Rattle.text.specs.TagLinesLaws.{front-more}
+use Rattle.lists.specs.WrittenLaws.{written-front}
 
 -- The first i cells are copied, and the others are as they were.
 pub record Copied (tags : List ℕ) (count : ℕ) (before cells : List ℕ) (i : ℕ) : Type 0 where
@@ -24,7 +24,7 @@ copied-turn {tags} {count} {before} {cells} {i} c enough room lt = record {
   long = length-set cells i _ ∙ c .long;
   cells-are =
       rw (c .cells-are, add-one i, take-suc tags i 0 (omega arith), ← add-one i)
-      (front-more (take i tags) before i (getD tags i 0) (length-take-le i tags (omega arith)) (omega arith));
+      (written-front (take i tags) before i (getD tags i 0) (length-take-le i tags (omega arith)) (omega arith));
 }
 
 pub copied-done : {tags : List ℕ} {count : ℕ} {before cells : List ℕ} {i : ℕ} → Copied tags count before cells i → count ≤ i

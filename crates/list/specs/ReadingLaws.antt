@@ -1,11 +1,11 @@
 -- Each way in which reading ends, the tags line by line, and that reading a list text gives back what it states. Assumes nothing.
 use mathlib.Core.Path.{_≡_, refl, sym, _∙_, ap}
-use mathlib.Core.Bool.{true, false}
+use mathlib.Core.Bool.{true, false, not, _||_}
 use mathlib.Core.List.{List}
 use mathlib.Core.Option.{Option, none, some}
 use Prim.Native.Nat.{ℕ, zero, suc, _%_, _≤_, _<_}
 use native.Mathlib.Omega.{arith}
-use lib.Dec.{ltb}
+use lib.Dec.{eqb, ltb}
 use lib.ListN.{length}
 use borrow.Author.Tests.{le-leb, lt-ltb, le-ltb, ltb-false, ne-eqb}
 use Rattle.refusal.specs.Limits.{tagsMax}
@@ -55,6 +55,11 @@ tags-on (suc count) k text = rw (tag-list (lineAt k text), tags-on count (suc k)
 pub tagsFrom-length : (count k : ℕ) (text : List ℕ) → length (tagsFrom count k text) ≡ count
 tagsFrom-length count k text = rw (← tags-on count k text) (tagsOn-length count k text)
 
+-- The text is whole lines, of which there is one at least.
+pub record Whole (text : List ℕ) : Type 0 where
+  pub long : lineLength ≤ length text
+  pub even : length text % lineLength ≡ 0
+
 -- The ways in which reading ends, in the order of its checks.
 module _ (text : List ℕ) (cells : ℕ) where
   pub read-short : length text < lineLength → readingOf text cells ≡ refused 16 0
@@ -65,30 +70,31 @@ module _ (text : List ℕ) (cells : ℕ) where
   unfolding readingOf readingChecks inOrder met metAt
   read-uneven long uneven = rw (le-ltb (length text) lineLength long, ne-eqb (length text % lineLength) 0 uneven)
 
-  module _ (long : lineLength ≤ length text) (even : length text % lineLength ≡ 0) where
+  module _ (whole : Whole text) where
+    not-short : (ltb (length text) lineLength || not (eqb (length text % lineLength) 0)) ≡ false
+    not-short = rw (le-ltb (length text) lineLength (whole .long), whole .even)
+
     pub read-malformed : {k : ℕ} → first (malformed text) (lineCount text) ≡ some k → readingOf text cells ≡ refused 16 k
     unfolding readingOf readingChecks inOrder met metAt
-    read-malformed e = rw (le-ltb (length text) lineLength long, even, e)
+    read-malformed e = rw (not-short, e)
 
     pub read-header-malformed : malformed text 0 ≡ true → readingOf text cells ≡ refused 16 0
     unfolding lineCount
-    read-header-malformed e = read-malformed (first-zero (malformed text) (lineCount text) e (omega arith))
+    read-header-malformed e = read-malformed (first-zero (malformed text) (lineCount text) e (omega (arith, whole .long)))
 
     module _ (well : first (malformed text) (lineCount text) ≡ none) where
       pub read-many : tagsMax < tagCount text → readingOf text cells ≡ refused 5 0
       unfolding readingOf readingChecks inOrder met metAt
-      read-many many = rw (le-ltb (length text) lineLength long, even, well, lt-ltb tagsMax (tagCount text) many)
+      read-many many = rw (not-short, well, lt-ltb tagsMax (tagCount text) many)
 
       module _ (few : tagCount text ≤ tagsMax) where
         pub read-narrow : cells < tagCount text → readingOf text cells ≡ refused 9 0
         unfolding readingOf readingChecks inOrder met metAt
-        read-narrow narrow =
-            rw (le-ltb (length text) lineLength long, even, well, le-ltb tagsMax (tagCount text) few, lt-ltb cells (tagCount text) narrow)
+        read-narrow narrow = rw (not-short, well, le-ltb tagsMax (tagCount text) few, lt-ltb cells (tagCount text) narrow)
 
         pub read-answered : tagCount text ≤ cells → readingOf text cells ≡ answered (listedIn text)
         unfolding readingOf readingChecks inOrder met metAt
-        read-answered wide =
-            rw (le-ltb (length text) lineLength long, even, well, le-ltb tagsMax (tagCount text) few, le-ltb cells (tagCount text) wide)
+        read-answered wide = rw (not-short, well, le-ltb tagsMax (tagCount text) few, le-ltb cells (tagCount text) wide)
 
 -- What an accepted reading answers beside the tags.
 pub head-is : (text : List ℕ) {b l : ℕ} → listHeader (lineAt 0 text) ≡ some (b, l)

@@ -3,7 +3,7 @@ use mathlib.Core.Path.{_≡_, refl, _∙_}
 use mathlib.Core.Bool.{false}
 use mathlib.Core.List.{List, [], _∷_, map}
 use mathlib.Core.Option.{some}
-use Prim.Native.Nat.{ℕ, zero, suc, _+_, _-_, _*_, _^_, _≤_, _<_}
+use Prim.Native.Nat.{ℕ, zero, suc, _+_, _*_, _^_, _≤_, _<_}
 use native.Mathlib.Omega.{arith}
 use lib.ListN.{length, getD, length-map}
 use Rattle.refusal.specs.Limits.{tagEnd, tagsMax}
@@ -15,7 +15,7 @@ use Rattle.list.specs.Reading.{malformed, lineCount, tagCount, tagsFrom,
 use Rattle.list.specs.ReadingLaws.{header-well, line-well, read-answered}
 use Rattle.list.specs.Text.{textOf}
 
-tag-lines : (tags : List ℕ) → Lines (map tagLine tags)
+tag-lines : (tags : List ℕ) → Lines lineLength (map tagLine tags)
 unfolding Lines
 tag-lines [] = tt
 tag-lines (t ∷ ts) = (tagLine-length t, tag-lines ts)
@@ -40,13 +40,13 @@ tags-from (t ∷ ts) text k reads =
 
 module _ (b l : ℕ) (tags : List ℕ) (b-fits : b < 10 ^ 5) (l-fits : l < 10 ^ 5)
     (words : (i : ℕ) → i < length tags → getD tags i 0 < tagEnd) where
-  text-lines : Lines (pairLine b l ∷ map tagLine tags)
+  text-lines : Lines lineLength (pairLine b l ∷ map tagLine tags)
   unfolding Lines
   text-lines = (pairLine-length b l, tag-lines tags)
 
   text-length : length (textOf b l tags) ≡ lineLength * (1 + length tags)
   unfolding textOf
-  text-length = flatten-length (pairLine b l ∷ map tagLine tags) text-lines ∙ omega (arith, length-map tags tagLine)
+  text-length = flatten-length lineLength (pairLine b l ∷ map tagLine tags) text-lines ∙ omega (arith, length-map tags tagLine)
 
   header-reads : listHeader (lineAt 0 (textOf b l tags)) ≡ some (b, l)
   unfolding textOf
@@ -78,6 +78,6 @@ module _ (b l : ℕ) (tags : List ℕ) (b-fits : b < 10 ^ 5) (l-fits : l < 10 ^ 
   unfolding listedIn lineCount
   read-back cells few room =
       let text = textOf b l tags in
-      read-answered text cells (omega (arith, text-length)) (omega (arith, text-length))
+      read-answered text cells (record { long = omega (arith, text-length); even = omega (arith, text-length) })
       (first-out (malformed text) (lineCount text) (λ k lt. text-well k (omega (arith, text-length)))) (rw count-is few) (rw count-is room)
       ∙ rw (header-reads, count-is, tags-from tags text 1 tag-reads)

@@ -23,17 +23,17 @@ pub fn read_list(text: &[u8], cells: &mut [u32]) -> ListAnswer
     ensures cells { λ _. ⌜ now (cells .exit)
         ≡ cellsAfter (readingOf (now (text .entry)) (length (now (cells .entry)))) (now (cells .entry)) ⌝ }
 {
-    if text.len() < 11 {
+    if text.len() < text::LINE_LENGTH {
         return malformed(0);
     }
-    if text.len() % 11 != 0 {
+    if text.len() % text::LINE_LENGTH != 0 {
         return malformed(0);
     }
     let Pair::Numbers(groups, limit) = text::read_list_header(text, 0) else {
         return malformed(0);
     };
-    let lines = text.len() / 11;
-    let mut tags = [0u32; text::TAG_CELLS];
+    let lines = text.len() / text::LINE_LENGTH;
+    let mut tags = [0u32; refusal::TAG_CELLS];
     // Every line is examined, also those that there is no cell for: 16 comes before 5.
     if let First::At(k) = text::read_tag_lines(text, 1, lines, &mut tags) {
         return malformed(k);

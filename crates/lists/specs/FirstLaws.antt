@@ -111,3 +111,8 @@ module _ {A : Type 0} where
   unfolding isSome
   none-of-isSome none e = refl
   none-of-isSome (some a) e = cc
+
+  -- Where nothing is the answer there is none.
+  pub none-of-never : (o : Option A) → ((a : A) → o ≡ some a → ⊥) → o ≡ none
+  none-of-never none never = refl
+  none-of-never (some a) never = absurd (never a refl)

@@ -7,6 +7,8 @@ use native.Mathlib.Omega.{arith}
 use lib.ListN.{length, drop}
 use borrow.Author.Tests.{lt-ltb, le-ltb}
 use Rattle.refusal.specs.Outcome.{Outcome, answered, refused, answeredBy, followedBy}
+use Rattle.lists.specs.Written.{writtenAt}
+use Rattle.lists.specs.WrittenLaws.{written-first}
 use Rattle.text.specs.Line.{lineLength, pairLine}
 use Rattle.text.specs.LineLaws.{pairLine-length}
 use Rattle.list.specs.Reading.{Listed}
@@ -71,9 +73,9 @@ module _ (text before : List ℕ) where
 
     -- One line with the refusal, over what building left.
     pub printed-refused : {number place : ℕ} {left after : List ℕ} → buildingFromText text (length before) ≡ refused number place
-        → left ≡ bufferFromText text before → after ≡ pairLine number place ++ drop lineLength left → Printed text before lineLength after
+        → left ≡ bufferFromText text before → after ≡ writtenAt 0 (pairLine number place) left → Printed text before lineLength after
     unfolding buildingFromText bufferFromText printed
     printed-refused {number} {place} e kept line =
         let (output, same) = list-refused before enough (listFromText text) e in
         let long = ap length output ∙ pairLine-length number place in
-        printed-all (sym long) (line ∙ rw (kept ∙ same, long, output))
+        printed-all (sym long) (line ∙ rw (kept ∙ same, output) (written-first (pairLine number place) before))

@@ -2,15 +2,16 @@
 use mathlib.Core.Path.{_≡_, sym, _∙_}
 use mathlib.Core.Logic.{_⊎_, inl, inr}
 use mathlib.Core.List.{List}
-use mathlib.Core.Option.{some}
+use mathlib.Core.Option.{none, some}
 use Prim.Native.Nat.{ℕ, _+_, _-_, _≤_, _<_}
 use native.Mathlib.Omega.{arith}
 use lib.ListN.{length, set}
+use Rattle.lists.specs.First.{first}
 use Rattle.lists.specs.FirstLaws.{first-out}
-use Rattle.lists.specs.SearchLaws.{Searched, searched-start, searched-turn}
+use Rattle.lists.specs.SearchLaws.{Searched, searched-start, searched-turn, searched-found}
 use Rattle.text.specs.Line.{lineAt}
 use Rattle.text.specs.TagLines.{tagIn, noTagFrom, tagsStored}
-use Rattle.text.specs.TagLinesLaws.{line-before, line-tag, stored-none, stored-more, stored-full}
+use Rattle.text.specs.TagLinesLaws.{line-before, line-tag, line-no-tag, stored-none, stored-more, stored-full}
 
 -- The lines before line k are tags', as far as they are looked at, and the tags are stored.
 pub record Examined (bytes : List ℕ) (from end : ℕ) (before cells : List ℕ) (k : ℕ) : Type 0 where
@@ -45,3 +46,9 @@ examined-turn {bytes} {from} {end} {before} {cells} {after} {k} {t} e lt reads c
         → after ≡ tagsStored (k + 1 - from) from bytes before
     go (inl (fits, is)) = is ∙ rw (e .cells-are, ← next) (stored-more from bytes before (k - from) t fits (rw (here, reads)))
     go (inr (full, is)) = is ∙ e .cells-are ∙ rw (← next) (stored-full from bytes before (k - from) full)
+
+-- Line k is the first that is no tag's.
+pub examined-found : {bytes : List ℕ} {from end : ℕ} {before cells : List ℕ} {k : ℕ} → Examined bytes from end before cells k
+    → k < end → tagIn (lineAt k bytes) ≡ none → first (noTagFrom from bytes) end ≡ some k
+examined-found {bytes} {from} {end} {before} {cells} {k} e lt reads =
+    searched-found (noTagFrom from bytes) from end k (e .searched) lt (line-no-tag from bytes k (e .searched .above) reads)

@@ -1,13 +1,14 @@
 -- A field read column by column. Assumes nothing.
 use mathlib.Core.Path.{_≡_, refl, sym, _∙_}
 use mathlib.Core.List.{List, [], _∷_, _++_}
-use mathlib.Core.Option.{Option, none, some, Option·none-ne-some}
+use mathlib.Core.Option.{none, some, Option·none-ne-some}
 use Prim.Native.Nat.{ℕ, suc, _+_, _*_, _-_, _%_, _≤_, _<_}
 use native.Mathlib.Omega.{arith}
 use native.Mathlib.Nat.{pow-le-pow-right}
 use native.Mathlib.Numerals.{add-one}
 use lib.ListN.{length, getD, take, drop}
 use lib.Seq.{take-suc, take-all, take-add, length-take-le}
+use Rattle.lists.specs.FirstLaws.{none-of-never}
 use Rattle.columns.specs.Columns.{leadingFrom}
 use Rattle.columns.specs.ColumnsLaws.{leadingBehind, leading-append}
 use Rattle.text.specs.Field.{field}
@@ -49,31 +50,20 @@ module _ (s : List ℕ) (width v i : ℕ) (leads : Leads s width v i) where
   -- The first digit of no number's is no one's: what is read of a field is read of all its columns.
   pub leads-none : i < width - 1 → none ≡ leadingFrom v (getD s i 0 ∷ []) → none ≡ field width s
   unfolding leadingBehind
-  leads-none lt e = go (field width s) refl
-    where
-      j : ℕ
-      j = width - 1
-
-      go : (o : Option ℕ) → field width s ≡ o → none ≡ field width s
-      go none f = sym f
-      go (some n) f =
-          let last : width ≡ suc (width - 1) = omega arith in
-          let ends = field-ends (take (width - 1) s) (getD s (width - 1) 0) n (sym (whole s width (width - 1) (leads .long) last) ∙ f) in
-          let parts : width - 1 ≡ i + 1 + (width - 1 - (i + 1)) = omega arith in
-          let all = rw (parts, take-add (i + 1) (width - 1 - (i + 1)) s) at (ends .leads) in
-          let prefix = leading-append 0 (take (i + 1) s) (take (width - 1 - (i + 1)) (drop (i + 1) s)) in
-          absurd (Option·none-ne-some _ (rw (← more, ← e) at (sym prefix ∙ all)))
+  leads-none lt e = sym (none-of-never (field width s) (λ n f.
+      let last : width ≡ suc (width - 1) = omega arith in
+      let ends = field-ends (take (width - 1) s) (getD s (width - 1) 0) n (sym (whole s width (width - 1) (leads .long) last) ∙ f) in
+      let parts : width - 1 ≡ i + 1 + (width - 1 - (i + 1)) = omega arith in
+      let all = rw (parts, take-add (i + 1) (width - 1 - (i + 1)) s) at (ends .leads) in
+      let prefix = leading-append 0 (take (i + 1) s) (take (width - 1 - (i + 1)) (drop (i + 1) s)) in
+      Option·none-ne-some _ (rw (← more, ← e) at (sym prefix ∙ all))))
 
   module _ (end : width - 1 ≤ i) (x : ℕ) (e : (x + 48) % 256 ≡ getD s i 0) where
     pub leads-no-digit : x < 256 → 10 ≤ x → none ≡ field width s
-    leads-no-digit h l = go (field width s) refl
-      where
-        go : (o : Option ℕ) → field width s ≡ o → none ≡ field width s
-        go none f = sym f
-        go (some n) f =
-            let last : width ≡ suc i = omega (arith, leads .within) in
-            let ends = field-ends (take i s) (getD s i 0) n (sym (whole s width i (leads .long) last) ∙ f) in
-            absurd (no-digit e h l (omega arith) (ends .digit))
+    leads-no-digit h l = sym (none-of-never (field width s) (λ n f.
+        let last : width ≡ suc i = omega (arith, leads .within) in
+        let ends = field-ends (take i s) (getD s i 0) n (sym (whole s width i (leads .long) last) ∙ f) in
+        no-digit e h l (omega arith) (ends .digit)))
 
     pub leads-digit : x < 10 → some (v * 10 + x) ≡ field width s
     leads-digit h =

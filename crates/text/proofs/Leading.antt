@@ -2,16 +2,16 @@
 use mathlib.Core.Path.{_≡_, refl, sym, _∙_, ap}
 use mathlib.Core.Bool.{Bool, true, false}
 use mathlib.Core.List.{List, [], _∷_, _++_, append-nil}
-use mathlib.Core.Option.{none, some, Option·none-ne-some, Option·some-injective}
+use mathlib.Core.Option.{none, some, Option·some-injective}
 use Prim.Native.Nat.{ℕ, zero, suc, _+_, _*_, _/_, _%_, _^_, _≤_, _<_}
 use native.Mathlib.Omega.{arith}
 use native.Mathlib.Nat.{pow-suc, add-zero}
-use lib.Dec.{eqb, ltb}
+use lib.Dec.{eqb}
 use lib.ListN.{length, getD, take, drop, length-drop}
 use lib.Seq.{append-snoc, take-at, take-suc, getD-at, getD-drop, length-take-le}
-use borrow.Author.Tests.{eq-eqb, ne-eqb, eqb-true, lt-ltb, le-ltb, ltb-true}
+use borrow.Author.Tests.{eq-eqb, ne-eqb, eqb-true, lt-ltb, le-ltb}
 use Rattle.columns.specs.Columns.{columnOf, leadingFrom}
-use Rattle.columns.specs.ColumnsLaws.{leadingBehind, leading-append}
+use Rattle.columns.specs.ColumnsLaws.{leadingBehind, leading-append, leading-first}
 use Rattle.text.specs.Figure.{leading, figure}
 use Rattle.text.specs.FigureLaws.{leading-length}
 use Rattle.text.specs.Field.{field}
@@ -72,25 +72,12 @@ leading-behind v k [] {n} h e =
     let same : v ≡ n = Option·some-injective v n e in
     (append-nil (leading k v) ∙ rw (add-zero k, same), rw (add-zero k, ← same) h)
 leading-behind v k (byte ∷ bytes) {n} h e =
-    go (leading-behind (v * 10 + byte % 16) (suc k) bytes) (ltb (byte % 16) 10)
-    (eqb byte (columnOf (v * 10 + byte % 16) (byte % 16))) refl refl
-  where
-    m : ℕ
-    m = v * 10 + byte % 16
-
-    go : (m < 10 ^ suc k → leadingFrom m bytes ≡ some n
-        → (leading (suc k) m ++ bytes ≡ leading (suc k + length bytes) n) × (n < 10 ^ (suc k + length bytes)))
-        → (p q : Bool) → ltb (byte % 16) 10 ≡ p → eqb byte (columnOf m (byte % 16)) ≡ q
-        → (leading k v ++ (byte ∷ bytes) ≡ leading (k + length (byte ∷ bytes)) n) × (n < 10 ^ (k + length (byte ∷ bytes)))
-    go ih true true f g =
-        let digit = ltb-true (byte % 16) 10 f in
-        let more : k + suc (length bytes) ≡ suc k + length bytes = omega arith in
-        let front : leading (suc k) m ≡ leading k v ++ (byte ∷ []) =
-        leading-more k v (byte % 16) digit ∙ rw (← eqb-true byte (columnOf m (byte % 16)) g) in
-        let rest = ih (omega (arith, pow-suc 10 k)) (rw (f, g) at e) in
-        rw more (sym (append-snoc (leading k v) byte bytes) ∙ rw (← front) (rest .0), rest .1)
-    go ih true false f g = absurd (Option·none-ne-some n (rw (f, g) at e))
-    go ih false q f g = absurd (Option·none-ne-some n (rw f at e))
+    let m = v * 10 + byte % 16 in
+    let column = leading-first v byte bytes e in
+    let more : k + suc (length bytes) ≡ suc k + length bytes = omega arith in
+    let front : leading (suc k) m ≡ leading k v ++ (byte ∷ []) = leading-more k v (byte % 16) (column .digit) ∙ rw (← column .byte-is) in
+    let rest = leading-behind m (suc k) bytes (omega (arith, pow-suc 10 k, column .digit)) (column .rest) in
+    rw more (sym (append-snoc (leading k v) byte bytes) ∙ rw (← front) (rest .0), rest .1)
 
 pub leading-below : (xs : List ℕ) {n : ℕ} → leadingFrom 0 xs ≡ some n → n < 10 ^ length xs
 leading-below xs e = let z : 0 + length xs ≡ length xs = omega arith in rw z at (leading-behind 0 0 xs (omega arith) e .1)

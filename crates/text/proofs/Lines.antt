@@ -1,42 +1,47 @@
 -- A whole line by its bytes: what it reads as, and when it is malformed. Assumes nothing.
-use mathlib.Core.Path.{_≡_, refl, sym, _∙_, ap}
-use mathlib.Core.Bool.{Bool, true, false, cond}
+use mathlib.Core.Path.{_≡_, refl, sym, _∙_}
+use mathlib.Core.Bool.{true}
 use mathlib.Core.List.{List, [], _∷_}
-use mathlib.Core.Option.{Option, none, some, Option·none-ne-some, Option·some-injective}
-use Prim.Native.Nat.{ℕ, _+_, _*_, _%_, _≤_, _<_}
+use mathlib.Core.Option.{Option, none, some, Option·none-ne-some}
+use Prim.Native.Nat.{ℕ, suc, _+_, _*_, _%_, _≤_, _<_}
 use native.Mathlib.Omega.{arith}
-use lib.Dec.{eqb}
 use lib.ListN.{length, getD, take, drop, length-take, length-drop}
 use lib.Seq.{take-suc, length-take-le}
 use borrow.Author.Tests.{eq-eqb, eqb-true}
+use Rattle.lists.specs.BoolLaws.{some-of-cond}
+use Rattle.lists.specs.FirstLaws.{none-of-never}
 use Rattle.columns.specs.Columns.{leadingFrom, both}
 use Rattle.columns.specs.ColumnsLaws.{leadingBehind, leading-append}
-use Rattle.text.specs.Field.{field}
-use Rattle.text.specs.Line.{ended, bothFields, pairOf, tagOf}
-use Rattle.text.specs.LineLaws.{ended-short, ended-whole}
+use Rattle.text.specs.Line.{lineLength, ended, bothFields, pairOf, tagOf}
+use Rattle.text.specs.LineLaws.{ended-short, ended-whole, both-only}
 use Rattle.text.proofs.Leading.{leading-below, field-digit, field-ends, part-field}
 
 -- A line that the text cuts off is malformed.
-cut-off : (bytes : List ℕ) (at : ℕ) → length bytes < at + 11 → length (take 11 (drop at bytes)) ≡ 11 → ⊥
-cut-off bytes at h e = omega (arith, simp (length-take, length-drop) at e)
+cut-off : (columns : ℕ) (bytes : List ℕ) (at : ℕ) → length bytes < at + suc columns
+    → length (take (suc columns) (drop at bytes)) ≡ suc columns → ⊥
+cut-off columns bytes at h e = omega (arith, simp (length-take, length-drop) at e)
 
-module _ (bytes : List ℕ) (at : ℕ) (short : length bytes < at + 11) where
-  pub pair-short : pairOf (take 11 (drop at bytes)) ≡ none
-  unfolding pairOf
-  pair-short = rw (ended-short (take 11 (drop at bytes)) (cut-off bytes at short))
+module _ (bytes : List ℕ) (at : ℕ) (short : length bytes < at + lineLength) where
+  abbrev cut : List ℕ
+  cut = take lineLength (drop at bytes)
 
-  pub tag-short : tagOf (take 11 (drop at bytes)) ≡ none
-  unfolding tagOf
-  tag-short = rw (ended-short (take 11 (drop at bytes)) (cut-off bytes at short))
+  pub pair-short : pairOf cut ≡ none
+  unfolding pairOf ended
+  pair-short = rw (ended-short 10 cut (cut-off 10 bytes at short))
+
+  pub tag-short : tagOf cut ≡ none
+  unfolding tagOf ended
+  tag-short = rw (ended-short 10 cut (cut-off 10 bytes at short))
 
 -- Both numbers are there, or not.
+both-is : (o p : Option ℕ) → both o p ≡ bothFields o p
+unfolding both bothFields
+both-is none p = refl
+both-is (some a) none = refl
+both-is (some a) (some b) = refl
+
 pub both-some : (o p : Option ℕ) {m n : ℕ} → some (m, n) ≡ both o p → (o ≡ some m) × (p ≡ some n)
-unfolding both
-both-some none p e = absurd (Option·none-ne-some _ (sym e))
-both-some (some a) none e = absurd (Option·none-ne-some _ (sym e))
-both-some (some a) (some b) {m} {n} e =
-    let i = Option·some-injective (m, n) (a, b) e in
-    (ap (λ (x : ℕ × ℕ). some (x .0)) (sym i), ap (λ (x : ℕ × ℕ). some (x .1)) (sym i))
+both-some o p {m} {n} e = both-only o p m n (sym (e ∙ both-is o p))
 
 pub both-none : {o p : Option ℕ} {m n : ℕ} → none ≡ both o p → o ≡ some m → p ≡ some n → ⊥
 unfolding both
@@ -49,74 +54,72 @@ digit-of e h = omega arith
 pub no-digit : {byte x d : ℕ} → (x + 48) % 256 ≡ byte → x < 256 → 10 ≤ x → d < 10 → byte ≡ 48 + d → ⊥
 no-digit e h i j k = omega arith
 
--- So are the last column and the line feed, as one number.
-pub end-of : {byte feed x : ℕ} → (x + 2608) % 65536 ≡ byte + 256 * feed → byte < 256 → feed < 256 → x < 10 → (byte ≡ 48 + x) × (feed ≡ 10)
-end-of e h i j = (omega arith, omega arith)
+-- A line's last column is the digit y, and its line feed is there.
+pub record Ending (line : List ℕ) (y : ℕ) : Type 0 where
+  pub digit : getD line 9 0 ≡ 48 + y
+  pub low : y < 10
+  pub feed : getD line 10 0 ≡ 10
 
-pub no-end : {byte feed x d : ℕ} → (x + 2608) % 65536 ≡ byte + 256 * feed → x < 65536 → 10 ≤ x → d < 10 → byte ≡ 48 + d → feed ≡ 10 → ⊥
-no-end e h i j k l = omega arith
+-- So it is where the two bytes, as one number, are at most 9 above '0' and a line feed.
+module _ (line : List ℕ) {x : ℕ} (e : (x + 2608) % 65536 ≡ getD line 9 0 + 256 * getD line 10 0) where
+  pub ending-of : getD line 9 0 < 256 → getD line 10 0 < 256 → x < 10 → Ending line x
+  ending-of h i j = record { digit = omega arith; low = j; feed = omega arith }
 
-module _ (line : List ℕ) (whole : length line ≡ 11) where
-  abbrev feed : ℕ
-  feed = getD line 10 0
+  pub no-ending : {y : ℕ} → x < 65536 → 10 ≤ x → Ending line y → ⊥
+  no-ending h i end = omega (arith, end .digit, end .low, end .feed)
 
-  ended-feed : feed ≡ 10 → ended line ≡ true
-  ended-feed e = ended-whole line whole ∙ eq-eqb feed 10 e
+module _ (line : List ℕ) (whole : length line ≡ lineLength) where
+  -- A whole line is ended where its line feed is there.
+  ended-feed : getD line 10 0 ≡ 10 → ended line ≡ true
+  unfolding ended
+  ended-feed e = ended-whole 10 line whole ∙ eq-eqb (getD line 10 0) 10 e
+
+  feed-ended : ended line ≡ true → getD line 10 0 ≡ 10
+  unfolding ended
+  feed-ended e = eqb-true (getD line 10 0) 10 (sym (ended-whole 10 line whole) ∙ e)
 
   -- Two fields.
   pub pair-some : {m n x y : ℕ} → leadingFrom 0 (take 4 line) ≡ some m → leadingFrom 0 (take 4 (drop 5 line)) ≡ some n
-      → getD line 4 0 ≡ 48 + x → x < 10 → getD line 9 0 ≡ 48 + y → y < 10 → feed ≡ 10
-      → pairOf line ≡ some (m * 10 + x, n * 10 + y)
+      → getD line 4 0 ≡ 48 + x → x < 10 → Ending line y → pairOf line ≡ some (m * 10 + x, n * 10 + y)
   unfolding pairOf bothFields
-  pair-some {m} {n} {x} {y} first second a h b i end =
+  pair-some {m} {n} {x} {y} first second a h end =
       rw (
-        ended-feed end,
+        ended-feed (end .feed),
         part-field 4 0 line (omega arith),
         part-field 4 5 line (omega arith),
         a,
-        b,
+        end .digit,
         field-digit (take 4 line) m x first h,
-        field-digit (take 4 (drop 5 line)) n y second i,
+        field-digit (take 4 (drop 5 line)) n y second (end .low),
       )
 
   pub pair-none : ((m n x y : ℕ) → leadingFrom 0 (take 4 line) ≡ some m → leadingFrom 0 (take 4 (drop 5 line)) ≡ some n
-      → x < 10 → getD line 4 0 ≡ 48 + x → y < 10 → getD line 9 0 ≡ 48 + y → feed ≡ 10 → ⊥)
+      → x < 10 → getD line 4 0 ≡ 48 + x → Ending line y → ⊥)
       → pairOf line ≡ none
-  unfolding pairOf bothFields
-  pair-none never = rw (ended-whole line whole) (go (eqb feed 10) refl)
-    where
-      fields : feed ≡ 10 → (o p : Option ℕ) → field 5 (take 5 line) ≡ o → field 5 (take 5 (drop 5 line)) ≡ p → bothFields o p ≡ none
-      fields end none p f g = refl
-      fields end (some a) none f g = refl
-      fields end (some a) (some b) f g =
-          let first = field-ends (take 4 line) (getD line 4 0) a (sym (part-field 4 0 line (omega arith)) ∙ f) in
-          let second = field-ends (take 4 (drop 5 line)) (getD line 9 0) b (sym (part-field 4 5 line (omega arith)) ∙ g) in
-          absurd (never _ _ _ _ (first .leads) (second .leads) (omega arith) (first .digit) (omega arith) (second .digit) end)
-
-      go : (b : Bool) → eqb feed 10 ≡ b → cond b (bothFields (field 5 (take 5 line)) (field 5 (take 5 (drop 5 line)))) none ≡ none
-      go false e = refl
-      go true e = fields (eqb-true feed 10 e) (field 5 (take 5 line)) (field 5 (take 5 (drop 5 line))) refl refl
+  unfolding pairOf
+  pair-none never = none-of-never (pairOf line) (λ ab e.
+      let (f, g) = some-of-cond (ended line) _ e in
+      let (a, b) = both-only _ _ (ab .0) (ab .1) g in
+      let first = field-ends (take 4 line) (getD line 4 0) (ab .0) (sym (part-field 4 0 line (omega arith)) ∙ a) in
+      let second = field-ends (take 4 (drop 5 line)) (getD line 9 0) (ab .1) (sym (part-field 4 5 line (omega arith)) ∙ b) in
+      never _ _ _ _ (first .leads) (second .leads) (omega arith) (first .digit)
+      (record { digit = second .digit; low = omega arith; feed = feed-ended f }))
 
   -- One field.
-  pub tag-some : {n y : ℕ} → leadingFrom 0 (take 9 line) ≡ some n → getD line 9 0 ≡ 48 + y → y < 10 → feed ≡ 10
-      → tagOf line ≡ some (n * 10 + y)
+  pub tag-some : {n y : ℕ} → leadingFrom 0 (take 9 line) ≡ some n → Ending line y → tagOf line ≡ some (n * 10 + y)
   unfolding tagOf
-  tag-some {n} {y} leading b i end =
-      rw (ended-feed end, part-field 9 0 line (omega arith), b, field-digit (take 9 line) n y leading i)
+  tag-some {n} {y} leading end =
+      rw (ended-feed (end .feed), part-field 9 0 line (omega arith), end .digit, field-digit (take 9 line) n y leading (end .low))
 
-  pub tag-none : ((n y : ℕ) → leadingFrom 0 (take 9 line) ≡ some n → y < 10 → getD line 9 0 ≡ 48 + y → feed ≡ 10 → ⊥) → tagOf line ≡ none
+  pub tag-none : ((n y : ℕ) → leadingFrom 0 (take 9 line) ≡ some n → Ending line y → ⊥) → tagOf line ≡ none
   unfolding tagOf
-  tag-none never = rw (ended-whole line whole) (go (eqb feed 10) refl)
-    where
-      columns : feed ≡ 10 → (o : Option ℕ) → field 10 (take 10 line) ≡ o → o ≡ none
-      columns end none f = refl
-      columns end (some t) f =
-          let ends = field-ends (take 9 line) (getD line 9 0) t (sym (part-field 9 0 line (omega arith)) ∙ f) in
-          absurd (never _ _ (ends .leads) (omega arith) (ends .digit) end)
+  tag-none never = none-of-never (tagOf line) (λ t e.
+      let (f, g) = some-of-cond (ended line) _ e in
+      let ends = field-ends (take 9 line) (getD line 9 0) t (sym (part-field 9 0 line (omega arith)) ∙ g) in
+      never _ _ (ends .leads) (record { digit = ends .digit; low = omega arith; feed = feed-ended f }))
 
-      go : (b : Bool) → eqb feed 10 ≡ b → cond b (field 10 (take 10 line)) none ≡ none
-      go false e = refl
-      go true e = columns (eqb-true feed 10 e) (field 10 (take 10 line)) refl
+  pub tag-no-columns : none ≡ leadingFrom 0 (take 9 line) → tagOf line ≡ none
+  tag-no-columns e = tag-none (λ n y leads end. Option·none-ne-some n (e ∙ leads))
 
   -- Nine leading columns: eight, and one more.
   nine-columns : leadingFrom 0 (take 9 line) ≡ leadingBehind (leadingFrom 0 (take 8 line)) (getD line 8 0 ∷ [])

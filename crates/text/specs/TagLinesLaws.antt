@@ -1,16 +1,17 @@
 -- Lines of one tag each, one by one, and the cells that their tags are stored in, cell by cell. Assumes nothing.
-use mathlib.Core.Path.{_≡_, refl, sym, _∙_, ap}
+use mathlib.Core.Path.{_≡_, refl, _∙_, ap}
 use mathlib.Core.Bool.{true, false, not}
 use mathlib.Core.List.{List, [], _∷_, _++_}
 use mathlib.Core.Option.{none, some, Option·getD}
-use Prim.Native.Nat.{ℕ, zero, suc, _+_, _-_, _≤_, _<_, min}
+use Prim.Native.Nat.{ℕ, zero, suc, _+_, _≤_, _<_, min}
 use native.Mathlib.Omega.{arith}
 use native.Mathlib.Nat.{add-zero}
 use native.Mathlib.Numerals.{add-one}
 use lib.ListN.{length, getD, set, take, drop, length-append, length-drop, List·getD-append}
-use lib.Seq.{drop-cons, take-at, set-at, append-snoc, getD-append-add, getD-drop}
+use lib.Seq.{take-at}
 use borrow.Author.Tests.{le-leb, lt-leb}
 use Rattle.lists.specs.First.{isSome}
+use Rattle.lists.specs.WrittenLaws.{written-front}
 use Rattle.text.specs.Line.{lineAt, slotLine, listLine}
 use Rattle.text.specs.TagLines.{tagIn, noTagFrom, tagsOn, tagsStored}
 
@@ -63,13 +64,6 @@ tagsOn-at (suc count) k (suc j) bytes lt =
     let e : k + suc j ≡ suc k + j = omega arith in
     rw e (tagsOn-at count (suc k) j bytes (omega arith))
 
--- One element more is written behind those at the front.
-pub front-more : (front before : List ℕ) (i t : ℕ) → length front ≡ i → i < length before
-    → set (front ++ drop i before) i t ≡ front ++ (t ∷ []) ++ drop (i + 1) before
-front-more front before i t n lt =
-    let rest = drop (suc i) before in
-    rw (drop-cons before i 0 lt, add-one i) (set-at front _ rest t i n ∙ sym (append-snoc front t rest))
-
 module _ (k : ℕ) (bytes before : List ℕ) where
   pub stored-none : tagsStored 0 k bytes before ≡ before
   unfolding tagsStored tagsOn
@@ -94,7 +88,7 @@ module _ (k : ℕ) (bytes before : List ℕ) where
       let more : tagsOn (n + 1) k bytes ≡ tagsOn n k bytes ++ (t ∷ []) =
       ap (λ (m : ℕ). tagsOn m k bytes) (add-one n) ∙ tagsOn-more n k bytes ∙ rw value in
       rw (stored-fits n (omega arith), stored-fits (n + 1) (omega arith), more)
-      (front-more (tagsOn n k bytes) before n t (tagsOn-length n k bytes) lt)
+      (written-front (tagsOn n k bytes) before n t (tagsOn-length n k bytes) lt)
 
   pub stored-full : (n : ℕ) → length before ≤ n → tagsStored n k bytes before ≡ tagsStored (n + 1) k bytes before
   unfolding tagsStored
@@ -104,19 +98,9 @@ module _ (k : ℕ) (bytes before : List ℕ) where
   pub stored-tags : (n : ℕ) → n ≤ length before → take n (tagsStored n k bytes before) ≡ tagsOn n k bytes
   stored-tags n fits = rw (stored-fits n fits) (take-at (tagsOn n k bytes) (drop n before) n (tagsOn-length n k bytes))
 
-  -- Cell by cell: the tag of its line, or what was there.
-  module _ (n : ℕ) (fits : n ≤ length before) (j : ℕ) where
-    pub stored-holds : j < n → getD (tagsStored n k bytes before) j 0 ≡ Option·getD (tagIn (lineAt (k + j) bytes)) 0
-    stored-holds lt =
-        rw (stored-fits n fits)
-        (List·getD-append (tagsOn n k bytes) (drop n before) 0 j (omega (arith, tagsOn-length n k bytes)) ∙ tagsOn-at n k j bytes lt)
-
-    pub stored-kept : n ≤ j → getD (tagsStored n k bytes before) j 0 ≡ getD before j 0
-    stored-kept ge =
-        let rest : j ≡ length (tagsOn n k bytes) + (j - n) = omega (arith, tagsOn-length n k bytes) in
-        let back : n + (j - n) ≡ j = omega arith in
-        ap (λ (l : List ℕ). getD l j 0) (stored-fits n fits)
-        ∙ ap (λ (i : ℕ). getD (tagsOn n k bytes ++ drop n before) i 0) rest
-        ∙ getD-append-add (tagsOn n k bytes) (drop n before) (j - n) 0
-        ∙ getD-drop n before (j - n) 0
-        ∙ ap (λ (i : ℕ). getD before i 0) back
+  -- A cell holds the tag of its line.
+  pub stored-holds : (n : ℕ) → n ≤ length before → (j : ℕ) → j < n
+      → getD (tagsStored n k bytes before) j 0 ≡ Option·getD (tagIn (lineAt (k + j) bytes)) 0
+  stored-holds n fits j lt =
+      rw (stored-fits n fits)
+      (List·getD-append (tagsOn n k bytes) (drop n before) 0 j (omega (arith, tagsOn-length n k bytes)) ∙ tagsOn-at n k j bytes lt)

@@ -2,14 +2,16 @@
 use columns::Eight;
 use columns::Fours;
 use refusal::First;
+use refusal::TAG_CELLS;
 ghost use mathlib.Core.Path.{_≡_};
 ghost use mathlib.Core.Bool.{cond};
-ghost use mathlib.Core.List.{[], _∷_, _++_};
+ghost use mathlib.Core.List.{[], _∷_};
 ghost use Prim.Native.Nat.{_+_, _*_, _%_, _≤_, _<_};
 ghost use lib.Dec.{eqb, ltb};
 ghost use lib.ListN.{length, take, drop};
 ghost use Rattle.refusal.specs.Limits.{tagEnd, tagsMax};
 ghost use Rattle.lists.specs.First.{first};
+ghost use Rattle.lists.specs.Written.{writtenAt};
 ghost use Rattle.refusal.specs.Answer.{firstMeaning};
 ghost use Rattle.columns.specs.Columns.{columnOf, leadingFrom};
 ghost use Rattle.text.specs.Figure.{figure};
@@ -20,9 +22,6 @@ ghost use Rattle.text.specs.Answer.{fieldMeaning, pairMeaning, tagMeanin
 
 // Every line is ten columns and a line feed.
 pub const LINE_LENGTH: usize = 11;
-
-// Cells for the tags of a list, or of an image's slots.
-pub const TAG_CELLS: usize = refusal::TAGS_MAX;
 
 // What a field reads as.
 pub enum Field {
@@ -144,7 +143,7 @@ fn write_figure(s: &mut [u8], n: u64)
 // Writes the figure of n into a field of so many columns; the bytes before and after it stay.
 pub fn write_field(buffer: &mut [u8], at: usize, width: usize, n: u64)
     requires { ⌜ at + width ≤ length (now buffer) ⌝ }
-    ensures bytes { λ _. ⌜ now (buffer .exit) ≡ take at (now (buffer .entry)) ++ figure width n ++ drop (at + width) (now (buffer .entry)) ⌝ }
+    ensures bytes { λ _. ⌜ now (buffer .exit) ≡ writtenAt at (figure width n) (now (buffer .entry)) ⌝ }
 {
     let end = at + width;
     write_figure(&mut buffer[at..end], n);
@@ -229,7 +228,7 @@ pub fn read_tag_lines(bytes: &[u8], from: usize, end: usize, cells: &mut [u32; T
 {
     let mut k = from;
     while k < end {
-        let at = 11 * k;
+        let at = LINE_LENGTH * k;
         let after = at + LINE_LENGTH;
         let Tag::Number(t) = tag_in(&bytes[at..after]) else {
             return First::At(k);
@@ -298,8 +297,7 @@ pub fn read_list_line(bytes: &[u8], at: usize) -> Tag
 // Writes a line of two numbers; the bytes before and after it stay.
 pub fn write_pair_line(buffer: &mut [u8], at: usize, a: u32, b: u32)
     requires { ⌜ at + lineLength ≤ length (now buffer) ⌝ }
-    ensures bytes { λ _. ⌜ now (buffer .exit)
-        ≡ take at (now (buffer .entry)) ++ pairLine a b ++ drop (at + lineLength) (now (buffer .entry)) ⌝ }
+    ensures bytes { λ _. ⌜ now (buffer .exit) ≡ writtenAt at (pairLine a b) (now (buffer .entry)) ⌝ }
 {
     write_field(buffer, at, 5, a as u64);
     write_field(buffer, at + 5, 5, b as u64);
@@ -309,7 +307,7 @@ pub fn write_pair_line(buffer: &mut [u8], at: usize, a: u32, b: u32)
 // Writes the figure of a tag in ten columns; the bytes before and after it stay. Most tags have nine digits or ten.
 fn write_tag(buffer: &mut [u8], at: usize, t: u32)
     requires { ⌜ at + 10 ≤ length (now buffer) ⌝ }
-    ensures bytes { λ _. ⌜ now (buffer .exit) ≡ take at (now (buffer .entry)) ++ figure 10 t ++ drop (at + 10) (now (buffer .entry)) ⌝ }
+    ensures bytes { λ _. ⌜ now (buffer .exit) ≡ writtenAt at (figure 10 t) (now (buffer .entry)) ⌝ }
 {
     if t < 100000000 {
         write_field(buffer, at, 10, t as u64);
@@ -322,8 +320,7 @@ fn write_tag(buffer: &mut [u8], at: usize, t: u32)
 // Writes a line of one tag; the bytes before and after it stay.
 pub fn write_tag_line(buffer: &mut [u8], at: usize, t: u32)
     requires { ⌜ at + lineLength ≤ length (now buffer) ⌝ }
-    ensures bytes { λ _. ⌜ now (buffer .exit)
-        ≡ take at (now (buffer .entry)) ++ tagLine t ++ drop (at + lineLength) (now (buffer .entry)) ⌝ }
+    ensures bytes { λ _. ⌜ now (buffer .exit) ≡ writtenAt at (tagLine t) (now (buffer .entry)) ⌝ }
 {
     write_tag(buffer, at, t);
     buffer[at + 10] = b'\n';

@@ -4,18 +4,18 @@ use mathlib.Core.Path.{_≡_, sym, _∙_, ap}
 use mathlib.Core.List.{List, _++_, flatten}
 use native.Mathlib.Omega.{arith}
 use native.Mathlib.Numerals.{add-one}
-use lib.ListN.{length, getD, take, drop}
+use lib.ListN.{length, getD, drop}
 use Rattle.text.specs.Line.{lineLength, pairLine, tagLine}
-use Rattle.text.specs.LineLaws.{flatten-length}
+use Rattle.text.specs.LineLaws.{upTo-lines, flatten-length}
 use Rattle.lists.specs.UpTo.{upTo}
 use Rattle.image.specs.Sheet.{bytesOf, imageLength}
 use Rattle.lists.specs.UpToLaws.{upTo-length, flatten-more}
-use Rattle.image.specs.SheetLaws.{upTo-lines, bytes-length}
+use Rattle.image.specs.SheetLaws.{bytes-length}
 use Rattle.numbering.specs.Parts.{partStart}
 use Rattle.write.specs.Stated.{statedSheet, statedLine, Writable}
 use Rattle.write.specs.StatedLaws.{line-length, line-group, line-slot, stated-bytes}
 use Rattle.lists.specs.Written.{writtenAt}
-use Rattle.lists.specs.WrittenLaws.{written-nothing, written-of, written-first, written-length, written-next}
+use Rattle.lists.specs.WrittenLaws.{written-nothing, written-first, written-length, written-next}
 
 -- The first k lines are written, and the other bytes are as they were.
 pub record LinesWritten (ends seeds slots : List ℕ) (groups count : ℕ) (before bytes : List ℕ) (k : ℕ) : Type 0 where
@@ -29,14 +29,13 @@ module _ (ends seeds slots : List ℕ) (groups count : ℕ) where
   -- The bytes of k lines.
   lines-length : (k : ℕ) → length (flatten (upTo k line)) ≡ lineLength * k
   lines-length k =
-      flatten-length (upTo k line) (upTo-lines k line (line-length ends seeds slots groups count)) ∙ rw (upTo-length k line)
+      flatten-length lineLength (upTo k line) (upTo-lines lineLength k line (line-length ends seeds slots groups count))
+      ∙ rw (upTo-length k line)
 
   -- A line's own writer writes line k where it writes what line k is.
   pub line-written : (k : ℕ) (before : List ℕ) {piece after : List ℕ} → piece ≡ line k
-      → after ≡ take (lineLength * k) before ++ piece ++ drop (lineLength * k + lineLength) before
-      → after ≡ writtenAt (lineLength * k) (line k) before
-  line-written k before same e =
-      e ∙ rw same (written-of (lineLength * k) lineLength (line k) before (line-length ends seeds slots groups count k))
+      → after ≡ writtenAt (lineLength * k) piece before → after ≡ writtenAt (lineLength * k) (line k) before
+  line-written k before same e = e ∙ rw same
 
   pub header-line : (k : ℕ) → k ≡ 0 → pairLine count groups ≡ line k
   unfolding statedLine
@@ -80,15 +79,11 @@ module _ (ends seeds slots : List ℕ) (groups count : ℕ) where
           → LinesWritten ends seeds slots groups count before after (k + 1)
       lines-turn {after} lt e = record {
         upto = omega arith;
-        bytes-are = e ∙ rw (place, l .bytes-are, add-one k, flatten-more k line) next;
+        bytes-are =
+            e
+            ∙ rw (l .bytes-are, add-one k, flatten-more k line)
+            (written-next 0 (lineLength * k) (flatten (upTo k line)) (line k) before (omega (arith, lines-length k)) (omega arith));
       }
-        where
-          place : lineLength * k ≡ 0 + length (flatten (upTo k line))
-          place = omega (arith, lines-length k)
-
-          next : writtenAt (0 + length (flatten (upTo k line))) (line k) (writtenAt 0 (flatten (upTo k line)) before)
-              ≡ writtenAt 0 (flatten (upTo k line) ++ line k) before
-          next = written-next 0 (flatten (upTo k line)) (line k) before (omega arith)
 
       -- After the last line the image is written.
       pub lines-done : 1 + groups + count ≤ k

@@ -19,9 +19,6 @@ use Rattle.checking.specs.Steps.{GroupsStored}
 use Rattle.checking.specs.StepsLaws.{lines-start, group-line-tested, groups-none, groups-turn}
 use Rattle.checking.proofs.read_group_lines.Statement.{statement}
 use Rattle.checking.proofs.read_group_lines.Tie as tie
-use Rattle.checking.proofs.read_group_lines.Reads as reads
-use Rattle.checking.proofs.read_group_lines.Lts as lts
-use Rattle.text.proofs.read_group_line.Reads as read-group-line-reads
 
 -- The loop has come to group g.
 record Read (image : List ℕ) (count groups : ℕ) (starts seeds : List ℕ) (g : ℕ) : Type 0 where
@@ -36,7 +33,7 @@ abbrev μ-loop : tie.MeasureT-loop
 
 -- Where the line of group g is read.
 abbrev Line : Type 0
-Line = lts.After-read-group-line (read-group-line-reads.Asked, read-group-line-reads.Learnt) reads.Pre reads.Post Inv-loop μ-loop
+Line = tie.After-read-group-line Inv-loop μ-loop
 
 abbrev image : Line → List ℕ
 image c = c .before .before .before .before .args .image .now

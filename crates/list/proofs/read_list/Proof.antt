@@ -8,14 +8,17 @@ use native.Mathlib.Omega.{arith}
 use lib.ListN.{length, drop}
 use Rattle.refusal.specs.Outcome.{Outcome, answered, refused, answeredBy}
 use Rattle.refusal.specs.OutcomeLaws.{by-answered, by-refused}
+use Rattle.refusal.specs.declared.First.{First}
 use Rattle.refusal.specs.Answer.{firstMeaning}
-use Rattle.text.specs.Line.{listHeader}
+use Rattle.lists.specs.First.{first}
+use Rattle.text.specs.declared.Pair.{Pair}
+use Rattle.text.specs.Line.{lineAt, listHeader}
 use Rattle.text.specs.LineLaws.{line-reads}
 use Rattle.text.specs.TagLinesLaws.{stored-length, stored-tags}
 use Rattle.text.specs.Answer.{pairMeaning}
-use Rattle.list.specs.Reading.{lineCount, tagCount, tagsFrom, listedIn, readingOf, cellsAfter}
+use Rattle.list.specs.Reading.{malformed, lineCount, tagCount, tagsFrom, listedIn, readingOf, cellsAfter}
 use Rattle.list.specs.Answer.{ListHead, headOf}
-use Rattle.list.specs.ReadingLaws.{header-malformed, malformed-lines, tags-on, tagsFrom-length, head-is, read-short, read-uneven, read-header-malformed, read-malformed, read-many, read-narrow, read-answered}
+use Rattle.list.specs.ReadingLaws.{Whole, header-malformed, malformed-lines, tags-on, tagsFrom-length, head-is, read-short, read-uneven, read-header-malformed, read-malformed, read-many, read-narrow, read-answered}
 use Rattle.list.proofs.read_list.Statement.{statement}
 use Rattle.list.proofs.read_list.Tie as tie
 
@@ -35,6 +38,26 @@ module _ (text before : List ℕ) where
       → Promised text before outcome after
   unfolding Promised cellsAfter listedIn
   reads e is cells = (is ∙ sym (by-answered headOf e), rw (e, tagsFrom-length (tagCount text) 1 text) cells)
+
+-- Where the header is read, behind the checks of the length, and where the lines behind it are examined.
+abbrev text : tie.After-read-list-header → List ℕ
+text c = c .before .before .before .before .before .args .text .now
+
+whole : (c : tie.After-read-list-header) → Whole (text c)
+whole c = record { long = c .before .before .if1 .left; even = c .before .if2 .left }
+
+header : (c : tie.After-read-list-header) {told : Pair} → c .read-list-header .result ≡ told
+    → listHeader (lineAt 0 (text c)) ≡ pairMeaning told
+header c e = line-reads pairMeaning listHeader (text c) 0 0 (c .read-list-header .ensures) e refl
+
+abbrev opened : tie.After-read-tag-lines → tie.After-groups
+opened c = c .before .before .before
+
+found : (c : tie.After-read-tag-lines) {told : First} → c .read-tag-lines .result ≡ told
+    → first (malformed (text (opened c .before .before))) (lineCount (text (opened c .before .before))) ≡ firstMeaning told
+unfolding lineCount
+found c e =
+    malformed-lines _ (header (opened c .before .before) (opened c .groups .given .1)) _ (c .read-tag-lines .ensures .0) ∙ ap firstMeaning e
 
 malformed-requires : tie.Need-malformed-requires
 malformed-requires c κs = search needs
@@ -72,14 +95,8 @@ returns-3 : tie.Need-returns-3
 unfolding Promised
 returns-3 c =
     let read = c .before .before .before in
-    let long = read .before .before in
-    let a = long .before .before .before .args in
-    let text = a .text .now in
-    let none-read = c .before .enum-told .given .1 in
-    let header = line-reads pairMeaning listHeader text 0 0 (read .read-list-header .ensures) none-read refl in
-    refuses text (a .cells .now)
-    (read-header-malformed text _ (long .if1 .left) (read .before .if2 .left) (header-malformed text header))
-    (c .malformed3 .ensures)
+    let none-read = header-malformed (text read) (header read (c .before .enum-told .given .1)) in
+    refuses (text read) _ (read-header-malformed (text read) _ (whole read) none-read) (c .malformed3 .ensures)
 
 read-tag-lines-requires : tie.Need-read-tag-lines-requires
 read-tag-lines-requires c κs =
@@ -93,18 +110,11 @@ malformed-requires-4 : tie.Need-malformed-requires-4
 malformed-requires-4 c κs = search needs
 
 returns-4 : tie.Need-returns-4
-unfolding Promised lineCount
+unfolding Promised
 returns-4 c =
-    let found = c .before .before in
-    let scanned = found .before .before in
-    let told = scanned .before .before .before in
-    let read = told .before .before in
-    let long = read .before .before in
-    let a = long .before .before .before .args in
-    let header = line-reads pairMeaning listHeader (a .text .now) 0 0 (read .read-list-header .ensures) (told .groups .given .1) refl in
-    let at-k = malformed-lines (a .text .now) header _ (scanned .read-tag-lines .ensures .0) ∙ ap firstMeaning (found .k .given .1) in
-    refuses (a .text .now) (a .cells .now)
-    (read-malformed (a .text .now) _ (long .if1 .left) (read .before .if2 .left) at-k)
+    let told = c .before .before in
+    let read = opened (told .before .before) .before .before in
+    refuses (text read) _ (read-malformed (text read) _ (whole read) (found (told .before .before) (told .k .given .1)))
     (c .malformed4 .ensures)
 
 enum-told-2 : tie.Need-enum-told-2
@@ -116,32 +126,19 @@ sub-count c = search needs
 returns-5 : tie.Need-returns-5
 unfolding Promised tagCount lineCount
 returns-5 c =
-    let none-found = c .before in
-    let scanned = none-found .before .before in
-    let told = scanned .before .before .before in
-    let read = told .before .before in
-    let long = read .before .before in
-    let a = long .before .before .before .args in
-    let header = line-reads pairMeaning listHeader (a .text .now) 0 0 (read .read-list-header .ensures) (told .groups .given .1) refl in
-    let none = ap firstMeaning (none-found .enum-told2 .given .1) in
-    let well = malformed-lines (a .text .now) header _ (scanned .read-tag-lines .ensures .0) ∙ none in
-    refuses (a .text .now) (a .cells .now)
-    (read-many (a .text .now) _ (long .if1 .left) (read .before .if2 .left) well (c .if3 .taken)) refl
+    let examined = c .before .before .before in
+    let read = opened examined .before .before in
+    let none = found examined (c .before .enum-told2 .given .1) in
+    refuses (text read) _ (read-many (text read) _ (whole read) none (c .if3 .taken)) refl
 
 returns-6 : tie.Need-returns-6
 unfolding Promised tagCount lineCount
 returns-6 c =
-    let none-found = c .before .before in
-    let scanned = none-found .before .before in
-    let told = scanned .before .before .before in
-    let read = told .before .before in
-    let long = read .before .before in
-    let a = long .before .before .before .args in
-    let header = line-reads pairMeaning listHeader (a .text .now) 0 0 (read .read-list-header .ensures) (told .groups .given .1) refl in
-    let none = ap firstMeaning (none-found .enum-told2 .given .1) in
-    let well = malformed-lines (a .text .now) header _ (scanned .read-tag-lines .ensures .0) ∙ none in
-    refuses (a .text .now) (a .cells .now)
-    (read-narrow (a .text .now) _ (long .if1 .left) (read .before .if2 .left) well (c .before .if3 .left) (c .if4 .taken)) refl
+    let few = c .before in
+    let examined = few .before .before .before in
+    let read = opened examined .before .before in
+    let none = found examined (few .before .enum-told2 .given .1) in
+    refuses (text read) _ (read-narrow (text read) _ (whole read) none (few .if3 .left) (c .if4 .taken)) refl
 
 slice-aggregate-copy : tie.Need-slice-aggregate-copy
 slice-aggregate-copy c =
@@ -163,21 +160,17 @@ unfolding Promised tagCount lineCount
 returns-7 c =
     let copied = c .before .before in
     let wide = copied .before .before .before in
-    let none-found = wide .before .before in
-    let scanned = none-found .before .before in
-    let told = scanned .before .before .before in
+    let few = wide .before in
+    let examined = few .before .before .before in
+    let told = examined .before .before .before in
     let read = told .before .before in
-    let long = read .before .before in
-    let a = long .before .before .before .args in
-    let text = a .text .now in
-    let none = ap firstMeaning (none-found .enum-told2 .given .1) in
-    let header = line-reads pairMeaning listHeader text 0 0 (read .read-list-header .ensures) (told .groups .given .1) refl in
-    let well = malformed-lines text header _ (scanned .read-tag-lines .ensures .0) ∙ none in
-    let stored = rw none at (scanned .read-tag-lines .ensures .1) in
-    reads text (a .cells .now)
-    (read-answered text _ (long .if1 .left) (read .before .if2 .left) well (wide .before .if3 .left) (wide .if4 .left))
-    (sym (ap answered (head-is text header)))
-    (copied .copy .ensures ∙ rw (stored, stored-tags 1 text _ (tagCount text) (wide .before .if3 .left), tags-on (tagCount text) 1 text))
+    let none = ap firstMeaning (few .before .enum-told2 .given .1) in
+    let stored = rw none at (examined .read-tag-lines .ensures .1) in
+    let tags = tagCount (text read) in
+    reads (text read) (read .before .before .before .before .before .args .cells .now)
+    (read-answered (text read) _ (whole read) (found examined (few .before .enum-told2 .given .1)) (few .if3 .left) (wide .if4 .left))
+    (sym (ap answered (head-is (text read) (header read (told .groups .given .1)))))
+    (copied .copy .ensures ∙ rw (stored, stored-tags 1 (text read) _ tags (few .if3 .left), tags-on tags 1 (text read)))
 
 pub read-list-spec : {M : Type 1} → statement M
 read-list-spec =

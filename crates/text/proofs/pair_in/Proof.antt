@@ -4,7 +4,7 @@ use borrow.Author.Needs.{needs}
 use mathlib.Core.Path.{sym, _∙_, ap}
 use native.Mathlib.Omega.{arith}
 use Rattle.columns.specs.Answer.{foursMeaning}
-use Rattle.text.proofs.Lines.{pair-some, pair-none, both-some, both-none, digit-of, no-digit, end-of, no-end}
+use Rattle.text.proofs.Lines.{pair-some, pair-none, both-some, both-none, digit-of, no-digit, ending-of, no-ending}
 use Rattle.text.proofs.pair_in.Statement.{statement}
 use Rattle.text.proofs.pair_in.Tie as tie
 
@@ -22,7 +22,7 @@ returns c =
     let fours = c .before .before in
     let start = fours .before .before in
     let none-read = ap foursMeaning (sym (c .enum-told .given .1)) ∙ fours .two-fours .ensures in
-    sym (pair-none (start .args .line .now) (start .pre) (λ m n x y first second h a i b end. both-none none-read first second))
+    sym (pair-none (start .args .line .now) (start .pre) (λ m n x y first second h a end. both-none none-read first second))
 
 shared-slice-read-wrapping-sub-u8 : tie.Need-shared-slice-read-wrapping-sub-u8
 shared-slice-read-wrapping-sub-u8 c = search needs
@@ -35,7 +35,7 @@ returns-2 c =
     let fours = c .before .before .before .before .before .before in
     let start = fours .before .before in
     sym (pair-none (start .args .line .now) (start .pre)
-    (λ m n x y first second h a i b end. no-digit (c .before .wrapping-sub-u8 .ensures) (omega arith) (c .if1 .taken) h a))
+    (λ m n x y first second h a end. no-digit (c .before .wrapping-sub-u8 .ensures) (omega arith) (c .if1 .taken) h a))
 
 shared-slice-read-end-digit : tie.Need-shared-slice-read-end-digit
 shared-slice-read-end-digit c = search needs
@@ -51,7 +51,7 @@ returns-3 c =
     let fours = c .before .before .before .before .before .before .before .before .before .before in
     let start = fours .before .before in
     sym (pair-none (start .args .line .now) (start .pre)
-    (λ m n x y first second h a i b end. no-end (c .before .end-digit .ensures) (omega arith) (c .if2 .taken) i b end))
+    (λ m n x y first second h a end. no-ending _ (c .before .end-digit .ensures) (omega arith) (c .if2 .taken) end))
 
 cast-t13 : tie.Need-cast-t13
 cast-t13 c = search needs
@@ -86,9 +86,9 @@ returns-4 c =
     let start = known .before in
     let bytes = known .shared-slice-known .given in
     let (first, second) = both-some _ _ (ap foursMeaning (sym (told .m .given .1)) ∙ fours .two-fours .ensures) in
-    let (last, feed) = end-of (c .before .end-digit .ensures) (omega (arith, bytes 9)) (omega (arith, bytes 10)) (c .if2 .left) in
     sym (pair-some (start .args .line .now) (start .pre) first second
-    (digit-of (digit .before .wrapping-sub-u8 .ensures) (digit .if1 .left)) (digit .if1 .left) last (c .if2 .left) feed)
+    (digit-of (digit .before .wrapping-sub-u8 .ensures) (digit .if1 .left)) (digit .if1 .left)
+    (ending-of _ (c .before .end-digit .ensures) (omega (arith, bytes 9)) (omega (arith, bytes 10)) (c .if2 .left)))
 
 pub pair-in-spec : {M : Type 1} → statement M
 pair-in-spec =

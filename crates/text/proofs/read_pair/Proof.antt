@@ -2,6 +2,7 @@
 use borrow.Author.Needs.{needs}
 use mathlib.Core.Path.{_∙_}
 use native.Mathlib.Omega.{arith}
+use Rattle.text.specs.Line.{lineLength}
 use Rattle.text.proofs.Parts.{part-whole}
 use Rattle.text.proofs.Lines.{pair-short}
 use Rattle.text.proofs.read_pair.Statement.{statement}
@@ -34,7 +35,7 @@ pair-in-requires c κs = search needs
 returns-3 : tie.Need-returns-3
 returns-3 c =
     let a = c .before .before .before .before .before .args in
-    c .pair-in .ensures ∙ rw (part-whole (a .bytes .now) (a .at) 11)
+    c .pair-in .ensures ∙ rw (part-whole (a .bytes .now) (a .at) lineLength)
 
 pub read-pair-spec : {M : Type 1} → statement M
 read-pair-spec =

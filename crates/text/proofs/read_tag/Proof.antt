@@ -2,7 +2,7 @@
 use borrow.Author.Needs.{needs}
 use mathlib.Core.Path.{_∙_}
 use native.Mathlib.Omega.{arith}
-use Rattle.text.specs.Line.{within}
+use Rattle.text.specs.Line.{lineLength, within}
 use Rattle.text.proofs.Parts.{part-whole}
 use Rattle.text.proofs.Lines.{tag-short}
 use Rattle.text.proofs.read_tag.Statement.{statement}
@@ -37,7 +37,7 @@ tag-in-requires c κs = search needs
 returns-3 : tie.Need-returns-3
 returns-3 c =
     let a = c .before .before .before .before .before .args in
-    c .tag-in .ensures ∙ rw (part-whole (a .bytes .now) (a .at) 11)
+    c .tag-in .ensures ∙ rw (part-whole (a .bytes .now) (a .at) lineLength)
 
 pub read-tag-spec : {M : Type 1} → statement M
 read-tag-spec =

@@ -1,22 +1,19 @@
 -- `text::read_tag_lines` meets its contract: each line that the loop has passed is a tag's, and its tag is stored where there is
 -- a cell for it. Assumes nothing.
 use borrow.Author.Needs.{needs}
-use mathlib.Core.Path.{_≡_, sym}
+use mathlib.Core.Path.{_≡_, refl, sym, _∙_}
 use mathlib.Core.Logic.{inl, inr, ⊎-elim}
 use mathlib.Core.List.{List}
-use Prim.Native.Nat.{ℕ, _+_, _*_, _-_}
+use Prim.Native.Nat.{ℕ, _*_, _-_}
 use native.Mathlib.Omega.{arith}
-use lib.ListN.{take, drop}
-use lib.Dec.{ltb}
-use Rattle.refusal.specs.Limits.{tagEnd}
-use Rattle.lists.specs.SearchLaws.{searched-found, searched-done}
+use Rattle.lists.specs.SearchLaws.{searched-done}
 use Rattle.text.specs.declared.Tag.{Tag}
 use Rattle.text.specs.Answer.{tagMeaning}
-use Rattle.text.specs.Line.{lineAt, tagOf, within}
-use Rattle.text.specs.TagLines.{tagIn, noTagFrom}
-use Rattle.text.specs.TagLinesLaws.{line-no-tag}
+use Rattle.text.specs.Line.{lineLength, lineAt}
+use Rattle.text.specs.LineLaws.{line-reads}
+use Rattle.text.specs.TagLines.{tagIn}
 use Rattle.text.proofs.Parts.{part-whole}
-use Rattle.text.proofs.Examined.{Examined, examined-start, examined-turn}
+use Rattle.text.proofs.Examined.{Examined, examined-start, examined-turn, examined-found}
 use Rattle.text.proofs.read_tag_lines.Statement.{statement}
 use Rattle.text.proofs.read_tag_lines.Tie as tie
 
@@ -26,12 +23,22 @@ Inv-loop bytes from end cells₀ k₀ cells k = Examined bytes from end cells₀
 abbrev μ-loop : tie.MeasureT-loop
 μ-loop bytes from end cells₀ k₀ cells k = end - k
 
+-- Where line k is read.
+abbrev Line : Type 0
+Line = tie.After-tag-in Inv-loop μ-loop
+
+abbrev at : Line → tie.At-loop Inv-loop μ-loop
+at c = c .before .before .before
+
+abbrev bytes : Line → List ℕ
+bytes c = at c .before .before .args .bytes .now
+
 -- What the reader of a line, lent its part of the text, says of line k.
-line-reads : (bytes : List ℕ) (k : ℕ) {answer case : Tag}
-    → tagMeaning answer ≡ within (λ t. ltb t tagEnd) (tagOf (take (11 * k + 11 - 11 * k) (drop (11 * k) bytes))) → answer ≡ case
-    → tagIn (lineAt k bytes) ≡ tagMeaning case
-unfolding tagIn lineAt
-line-reads bytes k promised told = rw (← told, ← part-whole bytes (11 * k) 11) (sym promised)
+states : (c : Line) {told : Tag} → c .tag-in .result ≡ told → tagIn (lineAt (at c .loop .k) (bytes c)) ≡ tagMeaning told
+unfolding tagIn
+states c e =
+    let k = at c .loop .k in
+    line-reads tagMeaning tagIn (bytes c) k k (c .tag-in .ensures ∙ rw (part-whole (bytes c) (lineLength * k) lineLength)) e refl
 
 loop-holds : tie.Need-loop-holds Inv-loop μ-loop
 loop-holds c = examined-start _ _ _ _ (c .before .pre .0 .0)
@@ -62,17 +69,9 @@ enum-told c = search needs
 
 returns : tie.Need-returns Inv-loop μ-loop
 returns c =
-    let read = c .before .before in
-    let loop = read .before .before .before in
-    let start = loop .before .before in
-    let a = start .args in
-    let bytes = a .bytes .now in
-    let inv = loop .loop .inv in
-    let reads = line-reads bytes (loop .loop .k) (read .tag-in .ensures) (c .enum-told .given .1) in
-    let found =
-    searched-found (noTagFrom (a .from) bytes) (a .from) (a .end) _ (inv .searched) (read .before .before .loop-test .taken)
-    (line-no-tag (a .from) bytes (loop .loop .k) (inv .searched .above) reads) in
-    (sym found, inv .cells-are)
+    let line = c .before .before in
+    let inv = at line .loop .inv in
+    (sym (examined-found inv (line .before .before .loop-test .taken) (states line (c .enum-told .given .1))), inv .cells-are)
 
 sub-if1 : tie.Need-sub-if1 Inv-loop μ-loop
 sub-if1 c = search needs
@@ -95,25 +94,16 @@ loop-less c = search needs
 loop-again : tie.Need-loop-again Inv-loop μ-loop
 loop-again c =
     let told = c .before .before in
-    let read = told .before .before in
-    let loop = read .before .before .before in
-    let start = loop .before .before in
-    let a = start .args in
-    let bytes = a .bytes .now in
-    let inv = loop .loop .inv in
-    let reads = line-reads bytes (loop .loop .k) (read .tag-in .ensures) (told .t .given .1) in
-    let long = start .pre .1 in
-    examined-turn inv (read .before .before .loop-test .taken) reads
+    let line = told .before .before in
+    let long = at line .before .before .pre .1 in
+    examined-turn (at line .loop .inv) (line .before .before .loop-test .taken) (states line (told .t .given .1))
     (⊎-elim (λ q. inl (omega (arith, q .0 .taken, long), q .1)) (λ q. inr (omega (arith, q .0 .left, long), q .1)) (c .if1 .came))
 
 returns-2 : tie.Need-returns-2 Inv-loop μ-loop
 returns-2 c =
-    let loop = c .before in
-    let a = loop .before .before .args in
-    let inv = loop .loop .inv in
-    let end : loop .loop .k ≡ a .end = omega (arith, inv .searched .within, c .loop-test .left) in
-    let nowhere = searched-done (noTagFrom (a .from) (a .bytes .now)) (a .from) (a .end) _ (inv .searched) (c .loop-test .left) in
-    (sym nowhere, rw end at (inv .cells-are))
+    let inv = c .before .loop .inv in
+    let end : c .before .loop .k ≡ c .before .before .before .args .end = omega (arith, inv .searched .within, c .loop-test .left) in
+    (sym (searched-done _ _ _ _ (inv .searched) (c .loop-test .left)), rw end at (inv .cells-are))
 
 pub read-tag-lines-spec : {M : Type 1} → statement M
 read-tag-lines-spec =

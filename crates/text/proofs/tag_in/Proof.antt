@@ -1,17 +1,68 @@
 -- `text::tag_in` meets its contract: eight leading columns are read at once, the ninth and the last by themselves. Assumes nothing.
 use borrow.Author.Needs.{needs}
-use mathlib.Core.Path.{sym, _∙_, ap}
-use mathlib.Core.Option.{Option·none-ne-some}
-use Prim.Native.Nat.{_+_, _*_}
+use mathlib.Core.Path.{_≡_, sym, _∙_, ap}
+use mathlib.Core.List.{List}
+use mathlib.Core.Option.{some}
+use Prim.Native.Nat.{ℕ, _+_, _*_, _<_}
 use native.Mathlib.Omega.{arith}
+use lib.ListN.{length, take}
 use borrow.Author.Tests.{lt-ltb, le-ltb}
 use Rattle.refusal.specs.Limits.{tagEnd}
+use Rattle.columns.specs.declared.Eight.{Eight}
 use Rattle.columns.specs.Answer.{eightMeaning}
+use Rattle.columns.specs.Columns.{leadingFrom}
+use Rattle.text.specs.declared.Field.{Field}
 use Rattle.text.specs.Answer.{fieldMeaning}
-use Rattle.text.specs.Line.{within}
-use Rattle.text.proofs.Lines.{tag-some, tag-none, nine-none, nine-more, nine-below, end-of, no-end}
+use Rattle.text.specs.Line.{lineLength, tagOf, within}
+use Rattle.text.proofs.Lines.{tag-some, tag-none, tag-no-columns, nine-none, nine-more, nine-below, ending-of, no-ending}
 use Rattle.text.proofs.tag_in.Statement.{statement}
 use Rattle.text.proofs.tag_in.Tie as tie
+
+-- Where eight columns are read: what was read is their number.
+abbrev line : tie.After-eight-columns → List ℕ
+line c = c .before .before .args .line .now
+
+whole : (c : tie.After-eight-columns) → length (line c) ≡ lineLength
+whole c = c .before .before .pre
+
+eight : (c : tie.After-eight-columns) {told : Eight} → c .eight-columns .result ≡ told → eightMeaning told ≡ leadingFrom 0 (take 8 (line c))
+eight c e = ap eightMeaning (sym e) ∙ c .eight-columns .ensures
+
+-- Where the ninth is read.
+abbrev eight-read : tie.After-leading-column → tie.After-eight-columns
+eight-read c = c .before .before .before .before .before
+
+nine : (c : tie.After-leading-column) {told : Field} → c .leading-column .result ≡ told
+    → fieldMeaning told ≡ leadingFrom 0 (take 9 (line (eight-read c)))
+nine c e =
+    let read = eight-read c in
+    ap fieldMeaning (sym e)
+    ∙ c .leading-column .ensures
+    ∙ nine-more (line read) (whole read) (eight read (c .before .before .before .eight .given .1))
+
+-- Where the last column and the line feed are read.
+abbrev nine-read : tie.After-end-digit → tie.After-leading-column
+nine-read c = c .before .before .before .before .before .before
+
+abbrev first-nine : tie.After-end-digit → ℕ
+first-nine c = c .before .before .before .before .nine .given .0 .0
+
+leads : (c : tie.After-end-digit) → some (first-nine c) ≡ leadingFrom 0 (take 9 (line (eight-read (nine-read c))))
+leads c = nine (nine-read c) (c .before .before .before .before .nine .given .1)
+
+below : (c : tie.After-end-digit) → first-nine c < 1000000000
+below c = let read = eight-read (nine-read c) in nine-below (line read) (whole read) (leads c)
+
+-- Where they are a digit and a line feed: the line reads as its number.
+abbrev number : tie.Else1 → ℕ
+number c = first-nine (c .before) * 10 + c .before .end-digit .result
+
+reads : (c : tie.Else1) → tagOf (line (eight-read (nine-read (c .before)))) ≡ some (number c)
+reads c =
+    let read = eight-read (nine-read (c .before)) in
+    let bytes = read .before .shared-slice-known .given in
+    tag-some (line read) (whole read) (sym (leads (c .before)))
+    (ending-of (line read) (c .before .end-digit .ensures) (omega (arith, bytes 9)) (omega (arith, bytes 10)) (c .if1 .left))
 
 eight-columns-requires : tie.Need-eight-columns-requires
 eight-columns-requires c κs = search needs
@@ -25,11 +76,8 @@ enum-told c = search needs
 returns : tie.Need-returns
 unfolding within
 returns c =
-    let eight = c .before .before in
-    let start = eight .before .before in
-    let line = start .args .line .now in
-    let none-read = nine-none line (start .pre) (ap eightMeaning (sym (c .enum-told .given .1)) ∙ eight .eight-columns .ensures) in
-    rw (tag-none line (start .pre) (λ n y leads i b end. Option·none-ne-some n (none-read ∙ leads)))
+    let read = c .before .before in
+    rw (tag-no-columns (line read) (whole read) (nine-none (line read) (whole read) (eight read (c .enum-told .given .1))))
 
 cast-leading-column : tie.Need-cast-leading-column
 cast-leading-column c = search needs
@@ -49,16 +97,8 @@ enum-told-2 c = search needs
 returns-2 : tie.Need-returns-2
 unfolding within
 returns-2 c =
-    let column = c .before .before in
-    let told = column .before .before .before in
-    let eight = told .before .before in
-    let start = eight .before .before in
-    let line = start .args .line .now in
-    let none-read =
-    ap fieldMeaning (sym (c .enum-told2 .given .1))
-    ∙ column .leading-column .ensures
-    ∙ nine-more line (start .pre) (ap eightMeaning (sym (told .eight .given .1)) ∙ eight .eight-columns .ensures) in
-    rw (tag-none line (start .pre) (λ n y leads i b end. Option·none-ne-some n (none-read ∙ leads)))
+    let read = eight-read (c .before .before) in
+    rw (tag-no-columns (line read) (whole read) (nine (c .before .before) (c .enum-told2 .given .1)))
 
 shared-slice-read-end-digit : tie.Need-shared-slice-read-end-digit
 shared-slice-read-end-digit c = search needs
@@ -72,85 +112,29 @@ end-digit-requires c κs = search needs
 returns-3 : tie.Need-returns-3
 unfolding within
 returns-3 c =
-    let start = c .before .before .before .before .before .before .before .before .before .before .before .before .before .before in
-    rw (tag-none (start .args .line .now) (start .pre)
-    (λ n y leads i b end. no-end (c .before .end-digit .ensures) (omega arith) (c .if1 .taken) i b end))
+    let read = eight-read (nine-read (c .before)) in
+    let other = c .before .end-digit .ensures in
+    rw (tag-none (line read) (whole read) (λ n y columns end. no-ending (line read) other (omega arith) (c .if1 .taken) end))
 
 mul-t : tie.Need-mul-t
-mul-t c =
-    let nine = c .before .before .before .before .before in
-    let column = nine .before .before in
-    let told = column .before .before .before in
-    let eight = told .before .before in
-    let known = eight .before in
-    let start = known .before in
-    let line = start .args .line .now in
-    let leads =
-    ap fieldMeaning (sym (nine .nine .given .1))
-    ∙ column .leading-column .ensures
-    ∙ nine-more line (start .pre) (ap eightMeaning (sym (told .eight .given .1)) ∙ eight .eight-columns .ensures) in
-    omega (arith, nine-below line (start .pre) leads)
+mul-t c = omega (arith, below (c .before))
 
 cast-t : tie.Need-cast-t
 cast-t c = search needs
 
 add-t : tie.Need-add-t
-add-t c =
-    let nine = c .before .before .before .before .before in
-    let column = nine .before .before in
-    let told = column .before .before .before in
-    let eight = told .before .before in
-    let known = eight .before in
-    let start = known .before in
-    let line = start .args .line .now in
-    let leads =
-    ap fieldMeaning (sym (nine .nine .given .1))
-    ∙ column .leading-column .ensures
-    ∙ nine-more line (start .pre) (ap eightMeaning (sym (told .eight .given .1)) ∙ eight .eight-columns .ensures) in
-    omega (arith, nine-below line (start .pre) leads)
+add-t c = omega (arith, below (c .before))
 
 returns-4 : tie.Need-returns-4
 unfolding within
-returns-4 c =
-    let digit = c .before in
-    let nine = digit .before .before .before .before .before in
-    let column = nine .before .before in
-    let told = column .before .before .before in
-    let eight = told .before .before in
-    let known = eight .before in
-    let start = known .before in
-    let line = start .args .line .now in
-    let leads =
-    ap fieldMeaning (sym (nine .nine .given .1))
-    ∙ column .leading-column .ensures
-    ∙ nine-more line (start .pre) (ap eightMeaning (sym (told .eight .given .1)) ∙ eight .eight-columns .ensures) in
-    let bytes = known .shared-slice-known .given in
-    let (last, feed) = end-of (digit .before .end-digit .ensures) (omega (arith, bytes 9)) (omega (arith, bytes 10)) (digit .if1 .left) in
-    let t = nine .nine .given .0 .0 * 10 + digit .before .end-digit .result in
-    rw (tag-some line (start .pre) (sym leads) last (digit .if1 .left) feed, le-ltb t tagEnd (omega arith))
+returns-4 c = rw (reads (c .before), le-ltb (number (c .before)) tagEnd (omega arith))
 
 cast-t16 : tie.Need-cast-t16
 cast-t16 c = search needs
 
 returns-5 : tie.Need-returns-5
 unfolding within
-returns-5 c =
-    let digit = c .before in
-    let nine = digit .before .before .before .before .before in
-    let column = nine .before .before in
-    let told = column .before .before .before in
-    let eight = told .before .before in
-    let known = eight .before in
-    let start = known .before in
-    let line = start .args .line .now in
-    let leads =
-    ap fieldMeaning (sym (nine .nine .given .1))
-    ∙ column .leading-column .ensures
-    ∙ nine-more line (start .pre) (ap eightMeaning (sym (told .eight .given .1)) ∙ eight .eight-columns .ensures) in
-    let bytes = known .shared-slice-known .given in
-    let (last, feed) = end-of (digit .before .end-digit .ensures) (omega (arith, bytes 9)) (omega (arith, bytes 10)) (digit .if1 .left) in
-    let t = nine .nine .given .0 .0 * 10 + digit .before .end-digit .result in
-    rw (tag-some line (start .pre) (sym leads) last (digit .if1 .left) feed, lt-ltb t tagEnd (omega arith))
+returns-5 c = rw (reads (c .before), lt-ltb (number (c .before)) tagEnd (omega arith))
 
 pub tag-in-spec : {M : Type 1} → statement M
 tag-in-spec =
