@@ -19,9 +19,8 @@ use Rattle.filling.specs.InsertionLaws.{insertion-start, insertion-turn, insert
 use Rattle.filling.specs.LightestLaws.{second-place-lightest}
 use Rattle.bits.specs.WordBits.{choiceIn, toggleBit}
 use Rattle.bits.specs.WordBitsLaws.{choiceNumber-same, toggle-below, toggle-toggled, choice-past, choice-set, choice-kept, word-grown, set-grown}
-use Rattle.insertion.specs.Entry.{entryOf, Candidates}
-use Rattle.insertion.specs.EntryLaws.{entry-other, entry-part, candidates-fewer}
-use Rattle.insertion.specs.Keys.{keysOf}
+use Rattle.places.specs.Array.{entryOf, Candidates, keysOf}
+use Rattle.places.specs.ArrayLaws.{entry-other, entry-part, candidates-fewer}
 use Rattle.insertion.specs.Answer.{insertedMeaning}
 use Rattle.insertion.specs.LeastWordLaws.{lightest-word, word-lightest, nothing-word}
 use Rattle.insertion.specs.WordWeight.{wordWeight, lighterOf}
@@ -138,6 +137,10 @@ module _ (places : List ℕ) where
 
   -- The two insertions of key k into the word of the least sequence before it, with bit k clear and with it set.
   module _ (k word : ℕ) (before : Before places k word) where
+    -- The place of key k under a choice has a cell.
+    pub place-within : (choice : Bool) → entryOf places k choice < groupMax
+    place-within = before .1 .below k (omega arith)
+
     -- The word is the lightest,
     was : LightestWord places k word
     was = word-lightest places k word (omega (arith, before .0)) (before .2)

@@ -18,10 +18,9 @@ use Rattle.filling.specs.InsertionLaws.{lightest-same}
 use Rattle.filling.specs.LightestLaws.{placeIn, lightest-least, separate-fills, least-lightest}
 use Rattle.bits.specs.WordBits.{choiceIn}
 use Rattle.bits.specs.WordBitsLaws.{choicesOf-at}
-use Rattle.insertion.specs.Entry.{entryOf}
+use Rattle.places.specs.Array.{entryOf, keysOf}
+use Rattle.places.specs.ArrayLaws.{keysOf-length, keysOf-place}
 use Rattle.insertion.specs.Inserted.{LightestWord}
-use Rattle.insertion.specs.Keys.{keysOf}
-use Rattle.insertion.specs.KeysLaws.{keysOf-length, keysOf-place}
 
 module _ (places : List ℕ) (count : ℕ) where
   sized : length (keysOf count places) ≡ count

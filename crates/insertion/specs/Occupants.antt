@@ -9,7 +9,7 @@ use Rattle.refusal.specs.Limits.{groupMax}
 use Rattle.lists.specs.First.{first}
 use Rattle.lists.specs.UpTo.{upTo}
 use Rattle.bits.specs.WordBits.{choiceIn}
-use Rattle.insertion.specs.Entry.{entryOf}
+use Rattle.places.specs.Array.{entryOf}
 
 -- A cell: one more than the index of the key that has the place; 0 where none has it.
 unfoldable pub cellOf : Option ℕ → ℕ

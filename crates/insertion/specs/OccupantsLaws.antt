@@ -18,7 +18,7 @@ use Rattle.lists.specs.UpTo.{upTo}
 use Rattle.lists.specs.UpToLaws.{upTo-length, upTo-at}
 use Rattle.filling.specs.Insertion.{Separate, Taken}
 use Rattle.bits.specs.WordBits.{choiceIn}
-use Rattle.insertion.specs.Entry.{entryOf, Candidates}
+use Rattle.places.specs.Array.{entryOf, Candidates}
 use Rattle.insertion.specs.Occupants.{cellOf, keyIn, occupantsOf, Occupied}
 
 -- The first v of the cells are 0.

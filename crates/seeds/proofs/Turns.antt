@@ -20,8 +20,8 @@ use Rattle.filling.specs.Eviction.{State, placeUnder, goal, occupant, start, se
 use Rattle.filling.specs.EvictionLaws.{Has, replicate-zero, reached-choice, reached-among, reached-who, reached-cells, reached-goal, gives-up-none, seated-fills}
 use Rattle.group.specs.Group.{groupUnder, leastSeed}
 use Rattle.group.specs.GroupLaws.{NoneFills, group-size, group-below, leastSeed-only, leastSeed-out}
-use Rattle.candidates.specs.Array.{laidInto}
-use Rattle.candidates.specs.ArrayLaws.{group-cells, group-first, group-second}
+use Rattle.places.specs.Array.{entryOf, laidInto}
+use Rattle.candidates.specs.LaidLaws.{group-cells, group-place, group-within}
 use Rattle.seeds.specs.Occupancy.{occupancyOf}
 use Rattle.seeds.specs.OccupancyLaws.{ones-none}
 use Rattle.seeds.specs.Tried.{laidAfter}
@@ -160,7 +160,7 @@ pub record Turn (tags : List ℕ) (s : ℕ) (places others : List ℕ) (seated p
 pub turn-start : (tags : List ℕ) (s : ℕ) (before : List ℕ) {places : List ℕ} → length before ≡ 2 * groupMax
     → places ≡ laidInto (groupUnder tags s) before
     → length tags ≤ groupMax → Turn tags s places (replicate groupMax 0) 0 (getD places 0 0) (getD places groupMax 0) 1
-unfolding start Matches cellOf placeUnder otherUnder
+unfolding start Matches cellOf placeUnder otherUnder entryOf
 turn-start tags s before {places} size cells few = record {
   few = few;
   before = before;
@@ -177,8 +177,8 @@ turn-start tags s before {places} size cells few = record {
       started groupMax groupMax (λ i lt choice. omega (arith, group-below tags s i lt choice)) (omega (arith, group-size tags s));
   match = λ v. rw (replicate-zero groupMax v);
   goes = λ some. record {
-    to = group-first tags s before few size cells 0 some;
-    back = group-second tags s before few size cells 0 some;
+    to = group-place tags s before few size cells 0 some false;
+    back = group-place tags s before few size cells 0 some true;
   };
 }
 
@@ -282,32 +282,26 @@ module _
       turn-last all = seated-next 0 (omega arith) place other (λ lt. absurd (omega arith))
 
       module _ (next : seated + 1 < length tags) where
-        first-place : getD places (seated + 1) 0 ≡ placeBy false (getD keys (seated + 1) (0, 0))
-        first-place = group-first tags s (turn .before) (turn .few) (turn .size) (turn .cells) (seated + 1) next
+        pub next-first : entryOf places (seated + 1) false < groupMax
+        next-first =
+            let within = group-within tags s (turn .before) (turn .few) (turn .size) (turn .cells) (seated + 1) next false in
+            omega (arith, turn .few)
 
-        second-place : getD places (groupMax + (seated + 1)) 0 ≡ placeBy true (getD keys (seated + 1) (0, 0))
-        second-place = group-second tags s (turn .before) (turn .few) (turn .size) (turn .cells) (seated + 1) next
-
-        pub next-first : getD places (seated + 1) 0 < groupMax
-        next-first = omega (arith, first-place, group-below tags s (seated + 1) (omega (arith, group-size tags s)) false, turn .few)
-
-        -- The next tag enters at its first place,
-        pub turn-first :
-            Turn tags s places (set others place (other + 1)) (seated + 1)
-            (getD places (seated + 1) 0) (getD places (groupMax + (seated + 1)) 0) (2 * (seated + 1) + 1)
+        -- The next tag enters at its place under a choice.
+        enters : (choice : Bool) (c : ℕ) → c < 2 → eqb c 1 ≡ choice
+            → Turn tags s places (set others place (other + 1)) (seated + 1)
+            (entryOf places (seated + 1) choice) (entryOf places (seated + 1) (not choice)) (2 * (seated + 1) + 1)
         unfolding placeUnder otherUnder
-        turn-first =
-            seated-next 0 (omega arith) (getD places (seated + 1) 0) (getD places (groupMax + (seated + 1)) 0)
-            (λ lt. record { to = rw (entered 0 next) first-place; back = rw (entered 0 next) second-place })
+        enters choice c two is =
+            let own = group-place tags s (turn .before) (turn .few) (turn .size) (turn .cells) (seated + 1) next in
+            seated-next c two (entryOf places (seated + 1) choice) (entryOf places (seated + 1) (not choice))
+            (λ lt. record { to = rw (entered c next, is) (own choice); back = rw (entered c next, is) (own (not choice)) })
 
-        -- or at its second.
-        pub turn-second :
-            Turn tags s places (set others place (other + 1)) (seated + 1)
-            (getD places (groupMax + (seated + 1)) 0) (getD places (seated + 1) 0) (2 * (seated + 1) + 1)
-        unfolding placeUnder otherUnder
-        turn-second =
-            seated-next 1 (omega arith) (getD places (groupMax + (seated + 1)) 0) (getD places (seated + 1) 0)
-            (λ lt. record { to = rw (entered 1 next) second-place; back = rw (entered 1 next) first-place })
+        pub turn-next : (choice : Bool)
+            → Turn tags s places (set others place (other + 1)) (seated + 1)
+            (entryOf places (seated + 1) choice) (entryOf places (seated + 1) (not choice)) (2 * (seated + 1) + 1)
+        turn-next false = enters false 0 (omega arith) refl
+        turn-next true = enters true 1 (omega arith) refl
 
     module _ (full : getD others place 0 ≡ 0 → ⊥) where
       -- The place has an occupant,

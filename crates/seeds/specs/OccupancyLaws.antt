@@ -18,7 +18,7 @@ use Rattle.filling.specs.Filling.{Key, placeBy, Fills, EachCandidate}
 use Rattle.filling.specs.Touched.{candidatePlaces, once, touched}
 use Rattle.filling.specs.TouchedLaws.{fills-touched, untouched-none}
 use Rattle.filling.specs.Word.{choiceNumber}
-use Rattle.candidates.specs.Array.{placesBy}
+use Rattle.places.specs.Array.{placesBy}
 use Rattle.seeds.specs.Occupancy.{occupancy, occupancyOf}
 
 -- Bit x is set exactly where place x is in the list.

@@ -8,9 +8,8 @@ ghost use Prim.Native.Nat.{_≤_};
 ghost use Rattle.refusal.specs.Limits.{groupMax};
 ghost use Rattle.filling.specs.Least.{least};
 ghost use Rattle.filling.specs.Word.{wordOf};
-ghost use Rattle.insertion.specs.Entry.{Candidates};
+ghost use Rattle.places.specs.Array.{Candidates, keysOf};
 ghost use Rattle.sequence.specs.Answer.{choicesMeaning};
-ghost use Rattle.insertion.specs.Keys.{keysOf};
 
 // The choice word of the least sequence that fills, or that nothing does.
 pub enum Choices {

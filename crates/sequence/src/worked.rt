@@ -8,7 +8,7 @@ ghost use mathlib.Core.Path.{_≡_};
 pub fn word_of_two_fillings() -> u32
     ensures answer { λ r. ⌜ r ≡ 2 ⌝ }
 {
-    let mut places = [0u32; 2 * insertion::OCCUPANT_CELLS];
+    let mut places = [0u32; places::PLACE_CELLS];
     places[insertion::OCCUPANT_CELLS] = 1;
     places[insertion::OCCUPANT_CELLS + 1] = 1;
     match least_choices(&places, 2) {

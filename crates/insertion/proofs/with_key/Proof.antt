@@ -2,12 +2,13 @@
 -- of a key before it, and otherwise both insertions are made. Assumes nothing.
 use Prim.Native.Nat.{_+_}
 use mathlib.Core.Path.{refl}
+use mathlib.Core.Bool.{true, false}
 use native.Mathlib.Omega.{arith}
 use borrow.Author.Needs.{needs}
-use Rattle.insertion.specs.EntryLaws.{entry-first, entry-second, first-below, second-below}
+use Rattle.places.specs.Array.{entryOf}
 use Rattle.insertion.specs.Occupants.{occupantsAfter}
 use Rattle.insertion.specs.LeastWordLaws.{word-lightest}
-use Rattle.insertion.specs.InsertedLaws.{cells-size, first-free, second-free, first-occupied, second-occupied}
+use Rattle.insertion.specs.InsertedLaws.{place-within, cells-size, first-free, second-free, first-occupied, second-occupied}
 use Rattle.insertion.proofs.with_key.Statement.{statement}
 use Rattle.insertion.proofs.with_key.Tie as tie
 
@@ -18,44 +19,44 @@ shared-slice-read-first : tie.Need-shared-slice-read-first
 shared-slice-read-first c = search needs
 
 cast-first : tie.Need-cast-first
+unfolding entryOf
 cast-first c =
     let start = c .before .before in
-    record { fits = omega (arith, first-below (start .args .k) (start .pre .0 .1)) }
+    record { fits = omega (arith, place-within _ _ _ (start .pre .0) false) }
 
 mul-if1 : tie.Need-mul-if1
+unfolding entryOf
 mul-if1 c =
     let start = c .before .before in
-    record { fits = omega (arith, first-below (start .args .k) (start .pre .0 .1)) }
+    record { fits = omega (arith, place-within _ _ _ (start .pre .0) false) }
 
 element-copy-out-if1 : tie.Need-element-copy-out-if1
+unfolding entryOf
 element-copy-out-if1 c =
     let start = c .before .before in
-    omega (arith, first-below (start .args .k) (start .pre .0 .1))
+    omega (arith, place-within _ _ _ (start .pre .0) false)
 
 add-occupants : tie.Need-add-occupants
 add-occupants c = search needs
 
 mul-occupants : tie.Need-mul-occupants
+unfolding entryOf
 mul-occupants c =
     let start = c .before .before .before .before in
-    record { fits = omega (arith, first-below (start .args .k) (start .pre .0 .1)) }
+    record { fits = omega (arith, place-within _ _ _ (start .pre .0) false) }
 
 element-write-occupants : tie.Need-element-write-occupants
+unfolding entryOf
 element-write-occupants c =
     let start = c .before .before .before .before in
-    omega (arith, first-below (start .args .k) (start .pre .0 .1))
+    omega (arith, place-within _ _ _ (start .pre .0) false)
 
 returns : tie.Need-returns
-unfolding occupantsAfter
+unfolding occupantsAfter entryOf
 returns c =
     let start = c .before .before .before .before in
     let pre = start .pre in
-    let a = start .args in
-    let free = rw (entry-first (a .places .now) (a .k)) at (c .if1 .taken) in
-    rw (entry-first (a .places .now) (a .k)) (
-      first-free _ _ _ (pre .0) (pre .1) free,
-      first-occupied _ _ _ (pre .0) (pre .1) free,
-    )
+    (first-free _ _ _ (pre .0) (pre .1) (c .if1 .taken), first-occupied _ _ _ (pre .0) (pre .1) (c .if1 .taken))
 
 add-second : tie.Need-add-second
 add-second c = search needs
@@ -67,49 +68,51 @@ shared-slice-read-second : tie.Need-shared-slice-read-second
 shared-slice-read-second c = search needs
 
 cast-second : tie.Need-cast-second
+unfolding entryOf
 cast-second c =
     let start = c .before .before .before .before .before in
-    record { fits = omega (arith, second-below (start .args .k) (start .pre .0 .1)) }
+    record { fits = omega (arith, place-within _ _ _ (start .pre .0) true) }
 
 mul-if2 : tie.Need-mul-if2
+unfolding entryOf
 mul-if2 c =
     let start = c .before .before .before .before .before in
-    record { fits = omega (arith, second-below (start .args .k) (start .pre .0 .1)) }
+    record { fits = omega (arith, place-within _ _ _ (start .pre .0) true) }
 
 element-copy-out-if2 : tie.Need-element-copy-out-if2
+unfolding entryOf
 element-copy-out-if2 c =
     let start = c .before .before .before .before .before in
-    omega (arith, second-below (start .args .k) (start .pre .0 .1))
+    omega (arith, place-within _ _ _ (start .pre .0) true)
 
 add-occupants-2 : tie.Need-add-occupants-2
 add-occupants-2 c = search needs
 
 mul-occupants-2 : tie.Need-mul-occupants-2
+unfolding entryOf
 mul-occupants-2 c =
     let start = c .before .before .before .before .before .before .before in
-    record { fits = omega (arith, second-below (start .args .k) (start .pre .0 .1)) }
+    record { fits = omega (arith, place-within _ _ _ (start .pre .0) true) }
 
 element-write-occupants-2 : tie.Need-element-write-occupants-2
+unfolding entryOf
 element-write-occupants-2 c =
     let start = c .before .before .before .before .before .before .before in
-    omega (arith, second-below (start .args .k) (start .pre .0 .1))
+    omega (arith, place-within _ _ _ (start .pre .0) true)
 
 with-bit-requires : tie.Need-with-bit-requires
 with-bit-requires c κs = search needs
 
 returns-2 : tie.Need-returns-2
-unfolding occupantsAfter
+unfolding occupantsAfter entryOf
 returns-2 c =
     let second = c .before in
     let first = second .before .before .before in
     let start = first .before .before .before .before in
     let pre = start .pre in
-    let a = start .args in
-    let busy = rw (entry-first (a .places .now) (a .k)) at (first .if1 .left) in
-    let free = rw (entry-second (a .places .now) (a .k)) at (second .if2 .taken) in
-    rw (c .with-bit .ensures, entry-second (a .places .now) (a .k)) (
-      second-free _ _ _ (pre .0) (pre .1) free busy,
-      second-occupied _ _ _ (pre .0) (pre .1) free,
+    rw (c .with-bit .ensures) (
+      second-free _ _ _ (pre .0) (pre .1) (second .if2 .taken) (first .if1 .left),
+      second-occupied _ _ _ (pre .0) (pre .1) (second .if2 .taken),
     )
 
 evicting-requires : tie.Need-evicting-requires

@@ -11,7 +11,7 @@ use Rattle.refusal.specs.Answer.{firstMeaning}
 use Rattle.seeds.specs.Answer.{foundMeaning}
 use Rattle.sequence.specs.Answer.{choicesMeaning}
 use Rattle.sequence.specs.TakenLaws.{word-taken}
-use Rattle.placing.specs.PlacesLaws.{group-candidates, group-keys}
+use Rattle.placing.specs.PlacesLaws.{left-candidates, left-keys}
 use Rattle.placing.specs.PlacingLaws.{placing-limit, placing-large, placing-descends, placing-unseeded, placing-seeded}
 use Rattle.placing.proofs.place_group.Statement.{statement}
 use Rattle.placing.proofs.place_group.Tie as tie
@@ -105,7 +105,7 @@ slice-aggregate-least-choices c =
     let compared = searched .before .before .before .before in
     let a = compared .before .before .before .before .before .args in
     let left = rw (found .seed .given .1) at (searched .least-seed .ensures .1) in
-    let laid = group-candidates (a .tags .now) _ (compared .before .if2 .left) refl (found .seed .given .0 .0) (a .limit) left in
+    let laid = left-candidates (a .tags .now) _ (compared .before .if2 .left) refl (found .seed .given .0 .0) (a .limit) left in
     sym (laid .size)
 
 cast-least-choices : tie.Need-cast-least-choices
@@ -120,7 +120,7 @@ least-choices-requires c κs =
     let a = compared .before .before .before .before .before .args in
     let small = compared .before .if2 .left in
     let left = rw (found .seed .given .1) at (searched .least-seed .ensures .1) in
-    (small, group-candidates (a .tags .now) _ small refl (found .seed .given .0 .0) (a .limit) left)
+    (small, left-candidates (a .tags .now) _ small refl (found .seed .given .0 .0) (a .limit) left)
 
 enum-known-word : tie.Need-enum-known-word
 enum-known-word c = search needs
@@ -146,7 +146,7 @@ returns-5 c =
     let seed-is = sym (searched .least-seed .ensures .0) ∙ ap foundMeaning (found .seed .given .1) in
     let least = leastSeed-some (a .tags .now) (a .limit) seed-is in
     let left = rw (found .seed .given .1) at (searched .least-seed .ensures .1) in
-    let keys = group-keys (a .tags .now) _ (compared .before .if2 .left) refl (found .seed .given .0 .0) (a .limit) left in
+    let keys = left-keys (a .tags .now) _ (compared .before .if2 .left) refl (found .seed .given .0 .0) (a .limit) left in
     let word-is = word-taken (a .tags .now) _ _ (rw keys at (chosen .least-choices .ensures)) _ (least .fills) in
     let never : none ≡ some _ = ap choicesMeaning (sym (c .before .enum-told3 .given .1) ∙ word-is) in
     cc
@@ -166,7 +166,7 @@ returns-6 c =
     let seed-is = sym (searched .least-seed .ensures .0) ∙ ap foundMeaning (found .seed .given .1) in
     let least = leastSeed-some (a .tags .now) (a .limit) seed-is in
     let left = rw (found .seed .given .1) at (searched .least-seed .ensures .1) in
-    let keys = group-keys (a .tags .now) _ (compared .before .if2 .left) refl (found .seed .given .0 .0) (a .limit) left in
+    let keys = left-keys (a .tags .now) _ (compared .before .if2 .left) refl (found .seed .given .0 .0) (a .limit) left in
     let word-is = word-taken (a .tags .now) _ _ (rw keys at (chosen .least-choices .ensures)) _ (least .fills) in
     let same = ap choicesMeaning (sym (c .before .word .given .1) ∙ word-is) in
     let word-same : c .before .word .given .0 .0 ≡ wordOf (taken (a .tags .now) (found .seed .given .0 .0)) = cc in

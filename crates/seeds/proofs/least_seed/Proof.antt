@@ -3,16 +3,18 @@
 -- make, 2 * groupMax + 1. Assumes nothing.
 use Prim.Native.Nat.{ℕ, _+_, _*_, _-_, _<_}
 use mathlib.Core.Path.{_≡_, sym, _∙_}
+use mathlib.Core.Bool.{true, false}
 use mathlib.Core.List.{List}
 use mathlib.Core.Logic.{⊎-elim}
 use native.Mathlib.Omega.{arith}
 use lib.ListN.{length}
 use borrow.Author.Needs.{needs}
 use Rattle.refusal.specs.Limits.{groupMax}
+use Rattle.places.specs.Array.{entryOf}
 use Rattle.seeds.specs.Tried.{tried}
 use Rattle.seeds.proofs.Turns.{Passed, passed-start, passed-more, passed-out, passed-found, laid-next, dropped}
 use Rattle.seeds.proofs.Turns.{Turn, turn-start, turn-same, turn-all, turn-place, turn-other, turn-last}
-use Rattle.seeds.proofs.Turns.{next-first, turn-first, turn-second, turn-evict, turn-spent}
+use Rattle.seeds.proofs.Turns.{next-first, turn-next, turn-evict, turn-spent}
 use Rattle.seeds.proofs.least_seed.Statement.{statement}
 use Rattle.seeds.proofs.least_seed.Tie as tie
 use Rattle.seeds.proofs.least_seed.Reads as reads
@@ -138,18 +140,21 @@ element-copy-out-other-2 : tie.Need-element-copy-out-other-2 Inv-evict μ-evict 
 element-copy-out-other-2 c = search needs
 
 cast-if6 : tie.Need-cast-if6 Inv-evict μ-evict Inv-seeds μ-seeds
+unfolding entryOf
 cast-if6 c =
     let free = c .before .before .before in
     let below = next-first (free .before .before .evict .inv) (more (free .before)) (free .if4 .taken) (omega arith) in
     record { fits = omega (arith, below) }
 
 mul-if6 : tie.Need-mul-if6 Inv-evict μ-evict Inv-seeds μ-seeds
+unfolding entryOf
 mul-if6 c =
     let free = c .before .before .before in
     let below = next-first (free .before .before .evict .inv) (more (free .before)) (free .if4 .taken) (omega arith) in
     omega (arith, below)
 
 array-read-if6 : tie.Need-array-read-if6 Inv-evict μ-evict Inv-seeds μ-seeds
+unfolding entryOf
 array-read-if6 c =
     let free = c .before .before .before in
     let below = next-first (free .before .before .evict .inv) (more (free .before)) (free .if4 .taken) (omega arith) in
@@ -165,14 +170,15 @@ evict-less : tie.Need-evict-less Inv-evict μ-evict Inv-seeds μ-seeds
 evict-less c = search needs
 
 evict-again : tie.Need-evict-again Inv-evict μ-evict Inv-seeds μ-seeds
+unfolding entryOf
 evict-again c =
     let free = c .before in
     let inv = free .before .before .evict .inv in
     let unseated = more (free .before) in
     ⊎-elim
-    (λ p. turn-same (p .4) (p .5) (turn-second inv unseated (free .if4 .taken) (omega (arith, p .0 .taken))))
+    (λ p. turn-same (p .4) (p .5) (turn-next inv unseated (free .if4 .taken) (omega (arith, p .0 .taken)) true))
     (λ rest. ⊎-elim
-    (λ p. turn-same (p .4) (p .5) (turn-first inv unseated (free .if4 .taken) (omega (arith, p .0 .taken))))
+    (λ p. turn-same (p .4) (p .5) (turn-next inv unseated (free .if4 .taken) (omega (arith, p .0 .taken)) false))
     (λ p. turn-same (p .1) (p .2) (turn-last inv unseated (free .if4 .taken) (omega (arith, p .0 .left))))
     rest)
     (c .if5 .came)

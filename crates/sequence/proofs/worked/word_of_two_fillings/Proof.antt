@@ -9,12 +9,12 @@ use native.Mathlib.Omega.{arith}
 use borrow.Author.Needs.{needs}
 use lib.ListN.{replicate, set}
 use Rattle.refusal.specs.Limits.{groupMax}
+use Rattle.lists.specs.UpTo.{upTo}
 use Rattle.lists.specs.Occurs.{occurs}
 use Rattle.filling.specs.Filling.{placeBy}
 use Rattle.filling.specs.Least.{beginning, leastFrom, least}
 use Rattle.filling.specs.Word.{choiceNumber, wordOf}
-use Rattle.insertion.specs.Entry.{entryOf, Candidates}
-use Rattle.insertion.specs.Keys.{keysOf}
+use Rattle.places.specs.Array.{entryOf, Candidates, keysOf}
 use Rattle.sequence.proofs.worked.word_of_two_fillings.Statement.{statement}
 use Rattle.sequence.proofs.worked.word_of_two_fillings.Tie as tie
 
@@ -23,7 +23,7 @@ abbrev places : List ℕ
 places = set (set (replicate 48 0) 24 1) 25 1
 
 candidates : Candidates places 2
-unfolding entryOf choiceNumber
+unfolding entryOf
 candidates = record { size = refl; below = below }
   where
     below : (i : ℕ) → i < 2 → (choice : Bool) → entryOf places i choice < groupMax
@@ -34,7 +34,7 @@ candidates = record { size = refl; below = below }
     below (suc (suc i)) lt choice = absurd (omega arith)
 
 computed : Option·map wordOf (least (keysOf 2 places)) ≡ some 2
-unfolding keysOf least leastFrom beginning orElse occurs placeBy wordOf choiceNumber
+unfolding upTo entryOf keysOf least leastFrom beginning orElse occurs placeBy wordOf choiceNumber
 computed = refl
 
 same : {x y : ℕ} → some x ≡ some y → x ≡ y
