@@ -19,8 +19,8 @@ pub fn plan_groups(
     ends: &[usize],
     groups: usize,
     limit: u32,
-    seeds: &mut [u32; order::GROUP_CELLS],
-    words: &mut [u32; order::GROUP_CELLS],
+    seeds: &mut [u32; refusal::GROUP_CELLS],
+    words: &mut [u32; refusal::GROUP_CELLS],
 ) -> First
     requires { ⌜ Plannable groups (now ordered) (now ends) limit × (groups ≤ groupsMax)
         × (length (now seeds) ≡ groupsMax) × (length (now words) ≡ groupsMax) ⌝ }

@@ -8,8 +8,8 @@ pub fn plan_of_one_and_three() -> u32
 {
     let ordered = [1u32, 3];
     let ends = [2usize];
-    let mut seeds = [0u32; order::GROUP_CELLS];
-    let mut words = [0u32; order::GROUP_CELLS];
+    let mut seeds = [0u32; refusal::GROUP_CELLS];
+    let mut words = [0u32; refusal::GROUP_CELLS];
     plan_groups(&ordered, &ends, 1, 2, &mut seeds, &mut words);
     10 * seeds[0] + words[0]
 }

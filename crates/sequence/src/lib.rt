@@ -23,7 +23,7 @@ pub fn least_choices(places: &[u32], count: u32) -> Choices
     requires { ⌜ (count ≤ groupMax) × Candidates (now places) count ⌝ }
     ensures answer { λ r. ⌜ choicesMeaning r ≡ Option·map wordOf (least (keysOf count (now (places .entry)))) ⌝ }
 {
-    let mut occupants = [0u32; insertion::OCCUPANT_CELLS];
+    let mut occupants = [0u32; refusal::MEMBER_CELLS];
     let mut word: u32 = 0;
     let mut k: u32 = 0;
     while k < count {

@@ -1,6 +1,6 @@
 -- `sequence::worked::word_of_two_fillings` meets its contract: by the promise of `least_choices` the answer is the word that the
 -- definition computes to. Assumes nothing.
-use Prim.Native.Nat.{ℕ, zero, suc, _<_}
+use Prim.Native.Nat.{ℕ, zero, suc, _*_, _<_}
 use mathlib.Core.Path.{_≡_, refl, _∙_}
 use mathlib.Core.Bool.{Bool, true, false}
 use mathlib.Core.List.{List}
@@ -20,7 +20,7 @@ use Rattle.sequence.proofs.worked.word_of_two_fillings.Tie as tie
 
 -- The array of the two keys.
 abbrev places : List ℕ
-places = set (set (replicate 48 0) 24 1) 25 1
+places = set (set (replicate (2 * groupMax) 0) groupMax 1) (suc groupMax) 1
 
 candidates : Candidates places 2
 unfolding entryOf
