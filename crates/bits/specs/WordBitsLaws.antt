@@ -1,17 +1,17 @@
 -- The laws of a word's choices: how they are read, toggled and set, and that they are those of `choicesOf`. Assumes nothing.
 use Prim.Native.Nat.{ℕ, zero, suc, _+_, _*_, _-_, _/_, _%_, _^_, _<_}
-use mathlib.Core.Path.{_≡_, refl, _∙_, ap}
-use mathlib.Core.Bool.{Bool, true, false, not}
+use mathlib.Core.Path.{_≡_, refl, sym, _∙_, ap}
+use mathlib.Core.Bool.{Bool, true, false}
 use native.Mathlib.Nat.{pow-suc, pow-succ', div-div-eq-div-mul}
 use native.Mathlib.Numerals.{add-one}
 use native.Mathlib.Omega.{arith}
 use lib.Bits.{bitXor, xor-step, xor-zero-r, xor-lt, differ}
-use lib.Dec.{eqb}
 use lib.Pow.{pow-lt}
 use Rattle.bits.specs.Bit.{bitAt, setBit}
 use Rattle.bits.specs.BitLaws.{bit-below, bit-same, bit-other, setBit-below}
 use Rattle.filling.specs.Word.{choiceNumber, choicesOf}
-use Rattle.filling.specs.Weight.{byIndex}
+use Rattle.filling.specs.WordLaws.{number-choice, other-number}
+use Rattle.filling.specs.Separate.{byIndex}
 use Rattle.filling.specs.Insertion.{Toggled}
 use Rattle.bits.specs.WordBits.{choiceIn, toggleBit}
 
@@ -21,17 +21,10 @@ unfolding bitAt
 bit-shifted w zero = omega arith
 bit-shifted w (suc p) = rw (pow-succ' 2 p, ← div-div-eq-div-mul w 2 (2 ^ p)) (bit-shifted (w / 2) p)
 
--- A number below 2 is that of its choice.
-number-choice : (x : ℕ) → x < 2 → x ≡ choiceNumber (eqb x 1)
-unfolding choiceNumber
-number-choice zero lt = refl
-number-choice (suc zero) lt = refl
-number-choice (suc (suc x)) lt = absurd (omega arith)
-
 -- The word shifted by i is odd exactly where key i has choice 1.
 pub choice-shifted : (w i : ℕ) → w / 2 ^ i % 2 ≡ choiceNumber (choiceIn w i)
 unfolding choiceIn
-choice-shifted w i = bit-shifted w i ∙ number-choice (bitAt w i) (bit-below w i)
+choice-shifted w i = bit-shifted w i ∙ sym (number-choice (bitAt w i) (bit-below w i))
 
 -- A choice's number is 1 exactly for choice 1.
 pub choiceNumber-one : (c : Bool) → choiceNumber c ≡ 1 → c ≡ true
@@ -43,14 +36,6 @@ pub choiceNumber-zero : (c : Bool) → (choiceNumber c ≡ 1 → ⊥) → c ≡ 
 unfolding choiceNumber
 choiceNumber-zero false n = refl
 choiceNumber-zero true n = absurd (n refl)
-
--- Choices with one number are one.
-pub choiceNumber-same : (c d : Bool) → choiceNumber c ≡ choiceNumber d → c ≡ d
-unfolding choiceNumber
-choiceNumber-same false false e = refl
-choiceNumber-same false true e = absurd (omega arith)
-choiceNumber-same true false e = absurd (omega arith)
-choiceNumber-same true true e = refl
 
 -- The choices of a word by index are its choices as a sequence.
 pub choicesOf-at : (n w i : ℕ) → i < n → choiceIn w i ≡ byIndex (choicesOf n w) i
@@ -100,16 +85,11 @@ toggle-xor w (suc p) =
 pub toggle-below : (k w p : ℕ) → w < 2 ^ k → p < k → toggleBit w p < 2 ^ k
 toggle-below k w p below lt = rw (← toggle-xor w p) (xor-lt k w (2 ^ p) below (pow-lt lt))
 
-other-bit : (x : ℕ) → x < 2 → eqb (1 - x) 1 ≡ not (eqb x 1)
-other-bit zero lt = refl
-other-bit (suc zero) lt = refl
-other-bit (suc (suc x)) lt = absurd (omega arith)
-
 -- The choices of a word with a bit toggled are its choices with that key's toggled.
 pub toggle-toggled : (w o : ℕ) → Toggled (choiceIn w) (choiceIn (toggleBit w o)) o
 unfolding choiceIn
 toggle-toggled w o = record {
-  here = rw (toggle-same w o) (other-bit (bitAt w o) (bit-below w o));
+  here = rw (toggle-same w o) (other-number (bitAt w o) (bit-below w o));
   others = λ i n. rw (toggle-other w o i n);
 }
 

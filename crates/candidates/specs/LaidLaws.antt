@@ -6,7 +6,7 @@ use mathlib.Core.List.{List}
 use native.Mathlib.Omega.{arith}
 use lib.ListN.{length}
 use Rattle.refusal.specs.Limits.{groupMax}
-use Rattle.filling.specs.LightestLaws.{placeIn}
+use Rattle.filling.specs.Separate.{keyPlace}
 use Rattle.places.specs.Array.{entryOf, Candidates, keysOf, laidInto}
 use Rattle.places.specs.ArrayLaws.{laid-length, laid-entry, laid-keys}
 use Rattle.group.specs.Group.{groupUnder}
@@ -27,7 +27,7 @@ module _
     inside = omega (arith, group-size tags s)
 
     -- The place of tag i under a choice,
-    pub group-place : entryOf places i choice ≡ placeIn (groupUnder tags s) i choice
+    pub group-place : entryOf places i choice ≡ keyPlace (groupUnder tags s) i choice
     group-place = laid-entry (groupUnder tags s) before few-keys cells laid i inside choice
 
     -- which is one of the group's places.

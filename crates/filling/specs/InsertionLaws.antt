@@ -8,9 +8,10 @@ use native.Mathlib.Decide.{ℕ-discrete}
 use native.Mathlib.Omega.{arith}
 use lib.Dec.{eqb}
 use borrow.Author.Tests.{eq-eqb, ne-eqb}
+use Rattle.filling.specs.Separate.{Separate}
 use Rattle.filling.specs.Weight.{choiceWeight, total}
-use Rattle.filling.specs.WeightLaws.{total-same, total-count, total-less}
-use Rattle.filling.specs.Insertion.{distance, Toggled, Moved, Separate, SeparateBut, Lightest, LightestWith, NoneWith, Occupies, Unoccupied, Agreement, Insertion, Taken, Walk}
+use Rattle.filling.specs.WeightLaws.{total-same, count-most, total-change}
+use Rattle.filling.specs.Insertion.{distance, Toggled, Moved, SeparateBut, Lightest, LightestWith, NoneWith, Occupies, Unoccupied, Agreement, Insertion, Taken, Walk}
 
 -- A choice that is not another is that other, toggled.
 other-choice : (a b : Bool) → (a ≡ b → ⊥) → not a ≡ b
@@ -42,15 +43,17 @@ xor-other true true n = absurd (n refl)
 -- A new key with its choice in common is at most at distance k.
 distance-start : (c d : ℕ → Bool) (k : ℕ) → c k ≡ d k → distance c d (suc k) ≤ k
 unfolding distance total choiceWeight
-distance-start c d k e = rw (xor-same (c k) (d k) e) (omega (arith, total-count (λ i. xor (c i) (d i)) k))
+distance-start c d k e = rw (xor-same (c k) (d k) e) (omega (arith, count-most (λ i. xor (c i) (d i)) k))
 
 -- A choice that is brought into agreement brings the sequences closer by 1.
 distance-closer : (c c′ d : ℕ → Bool) (o n : ℕ) → o < n → (c o ≡ d o → ⊥) → c′ o ≡ d o
     → ((i : ℕ) → (i ≡ o → ⊥) → c′ i ≡ c i) → distance c d n ≡ distance c′ d n + 1
-unfolding distance
+unfolding distance choiceWeight
 distance-closer c c′ d o n lt differs agrees others =
-    total-less (λ _. 1) (λ i. xor (c i) (d i)) (λ i. xor (c′ i) (d i)) o n lt
-    (xor-other (c o) (d o) differs) (xor-same (c′ o) (d o) agrees) (λ i m. ap (λ (b : Bool). xor b (d i)) (sym (others i m)))
+    let change =
+    total-change (λ _. 1) (λ i. xor (c i) (d i)) (λ i. xor (c′ i) (d i)) o n lt
+    (λ i m. ap (λ (b : Bool). xor b (d i)) (sym (others i m))) in
+    omega (arith, rw (xor-other (c o) (d o) differs, xor-same (c′ o) (d o) agrees) at change)
 
 -- The exchange: f's choice where the insertion left the choice as it was before, and that from before where it did not.
 exchanged : Bool → Bool → Bool → Bool

@@ -12,13 +12,14 @@ use borrow.Author.Tests.{ltb-true, ltb-false}
 use Rattle.refusal.specs.Limits.{groupMax}
 use Rattle.bits.specs.Bit.{setBit}
 use Rattle.filling.specs.Word.{choiceNumber, wordOf}
+use Rattle.filling.specs.WordLaws.{choiceNumber-same}
 use Rattle.filling.specs.Least.{least}
 use Rattle.filling.specs.Weight.{keyWeight, choiceWeight, total}
 use Rattle.filling.specs.Insertion.{Lightest, NoneWith, Occupies, Insertion, Walk}
 use Rattle.filling.specs.InsertionLaws.{insertion-start, insertion-turn, insertion-done, insertion-stuck, insertion-returned, walk-start, walk-free, walk-occupied, walk-returned, walk-turn, lighter-lightest, only-lightest, neither-separate, lightest-same}
 use Rattle.filling.specs.LightestLaws.{second-place-lightest}
 use Rattle.bits.specs.WordBits.{choiceIn, toggleBit}
-use Rattle.bits.specs.WordBitsLaws.{choiceNumber-same, toggle-below, toggle-toggled, choice-past, choice-set, choice-kept, word-grown, set-grown}
+use Rattle.bits.specs.WordBitsLaws.{toggle-below, toggle-toggled, choice-past, choice-set, choice-kept, word-grown, set-grown}
 use Rattle.places.specs.Array.{entryOf, Candidates, keysOf}
 use Rattle.places.specs.ArrayLaws.{entry-other, entry-part, candidates-fewer}
 use Rattle.insertion.specs.Answer.{insertedMeaning}

@@ -7,15 +7,16 @@ use mathlib.Core.Option.{Option, none, some, Option·map}
 use native.Mathlib.Omega.{arith}
 use lib.ListN.{length}
 use Rattle.lists.specs.UpTo.{upTo}
+use Rattle.filling.specs.Separate.{byIndex, keyPlace, Separate}
 use Rattle.filling.specs.FillingLaws.{fills-apart}
 use Rattle.filling.specs.Word.{wordOf, choicesOf}
 use Rattle.filling.specs.WordLaws.{choicesOf-length, choices-word, word-choices, word-below}
 use Rattle.filling.specs.Least.{least}
 use Rattle.filling.specs.LeastLaws.{least-fills, least-none}
-use Rattle.filling.specs.Weight.{keyWeight, byIndex}
-use Rattle.filling.specs.Insertion.{Separate, Lightest}
+use Rattle.filling.specs.Weight.{keyWeight}
+use Rattle.filling.specs.Insertion.{Lightest}
 use Rattle.filling.specs.InsertionLaws.{lightest-same}
-use Rattle.filling.specs.LightestLaws.{placeIn, lightest-least, separate-fills, least-lightest}
+use Rattle.filling.specs.LightestLaws.{lightest-least, separate-fills, least-lightest}
 use Rattle.bits.specs.WordBits.{choiceIn}
 use Rattle.bits.specs.WordBitsLaws.{choicesOf-at}
 use Rattle.places.specs.Array.{entryOf, keysOf}
@@ -27,7 +28,7 @@ module _ (places : List ℕ) (count : ℕ) where
   sized = keysOf-length count places
 
   -- What separates the keys of the list separates those of the array,
-  array-separate : (f : ℕ → Bool) → Separate (placeIn (keysOf count places)) (length (keysOf count places)) f
+  array-separate : (f : ℕ → Bool) → Separate (keyPlace (keysOf count places)) (length (keysOf count places)) f
       → Separate (entryOf places) count f
   array-separate f apart i j li lj e =
       apart i j (omega (arith, sized)) (omega (arith, sized))
@@ -35,7 +36,7 @@ module _ (places : List ℕ) (count : ℕ) where
 
   -- and the other way round.
   list-separate : (f : ℕ → Bool) → Separate (entryOf places) count f
-      → Separate (placeIn (keysOf count places)) (length (keysOf count places)) f
+      → Separate (keyPlace (keysOf count places)) (length (keysOf count places)) f
   list-separate f apart i j li lj e =
       let bi : i < count = omega (arith, sized) in
       let bj : j < count = omega (arith, sized) in
@@ -46,9 +47,9 @@ module _ (places : List ℕ) (count : ℕ) where
       → some word ≡ Option·map wordOf (least (keysOf count places))
   lightest-word word few light = rw (found, choices-word count word (light .below))
     where
-      listed : Lightest (placeIn (keysOf count places)) keyWeight count (byIndex (choicesOf count word))
+      listed : Lightest (keyPlace (keysOf count places)) keyWeight count (byIndex (choicesOf count word))
       listed =
-          lightest-same (entryOf places) (placeIn (keysOf count places)) keyWeight count
+          lightest-same (entryOf places) (keyPlace (keysOf count places)) keyWeight count
           (choiceIn word) (byIndex (choicesOf count word))
           (λ i lt b. sym (keysOf-place count places i lt b)) (λ i lt. choicesOf-at count word i lt) (light .lightest)
 
@@ -76,7 +77,7 @@ module _ (places : List ℕ) (count : ℕ) where
           rw same (record {
             below = rw whole at (word-below cs);
             lightest =
-                lightest-same (placeIn (keysOf count places)) (entryOf places) keyWeight count
+                lightest-same (keyPlace (keysOf count places)) (entryOf places) keyWeight count
                 (byIndex cs) (choiceIn (wordOf cs)) (keysOf-place count places) (bits cs whole)
                 (rw sized at (least-lightest (keysOf count places) (omega (arith, sized)) e));
           })

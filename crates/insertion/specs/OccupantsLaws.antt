@@ -16,7 +16,8 @@ use Rattle.lists.specs.First.{first}
 use Rattle.lists.specs.FirstLaws.{first-some, first-found, first-out}
 use Rattle.lists.specs.UpTo.{upTo}
 use Rattle.lists.specs.UpToLaws.{upTo-length, upTo-at}
-use Rattle.filling.specs.Insertion.{Separate, Taken}
+use Rattle.filling.specs.Separate.{Separate}
+use Rattle.filling.specs.Insertion.{Taken}
 use Rattle.bits.specs.WordBits.{choiceIn}
 use Rattle.places.specs.Array.{entryOf, Candidates}
 use Rattle.insertion.specs.Occupants.{cellOf, keyIn, occupantsOf, Occupied}

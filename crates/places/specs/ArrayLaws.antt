@@ -10,7 +10,7 @@ use lib.Seq.{paste, length-paste, length-paste-head, length-take-le, getD-append
 use Rattle.refusal.specs.Limits.{groupMax}
 use Rattle.lists.specs.UpToLaws.{upTo-length, upTo-at}
 use Rattle.filling.specs.Filling.{Key, placeBy}
-use Rattle.filling.specs.LightestLaws.{placeIn}
+use Rattle.filling.specs.Separate.{keyPlace}
 use Rattle.places.specs.Array.{entryOf, Candidates, keyAt, keysOf, placesBy, laidInto}
 
 module _ (places : List ℕ) (i : ℕ) where
@@ -36,7 +36,7 @@ module _ (count : ℕ) (places : List ℕ) where
   keysOf-length = upTo-length count (keyAt places)
 
   -- The place that a choice takes of a key is the one that the array has for it.
-  pub keysOf-place : (i : ℕ) → i < count → (c : Bool) → placeIn (keysOf count places) i c ≡ entryOf places i c
+  pub keysOf-place : (i : ℕ) → i < count → (c : Bool) → keyPlace (keysOf count places) i c ≡ entryOf places i c
   unfolding keysOf placeBy
   keysOf-place i lt false = rw (upTo-at count (keyAt places) (0, 0) i lt)
   keysOf-place i lt true = rw (upTo-at count (keyAt places) (0, 0) i lt)
@@ -66,7 +66,7 @@ unfolding placesBy
 placesBy-length choice keys = length-map keys (placeBy choice)
 
 -- and the place of key i with index i.
-placesBy-at : (choice : Bool) (keys : List Key) (i : ℕ) → getD (placesBy choice keys) i 0 ≡ placeIn keys i choice
+placesBy-at : (choice : Bool) (keys : List Key) (i : ℕ) → getD (placesBy choice keys) i 0 ≡ keyPlace keys i choice
 unfolding placesBy placeBy
 placesBy-at false keys i = List·getD-map (placeBy false) keys i (0, 0)
 placesBy-at true keys i = List·getD-map (placeBy true) keys i (0, 0)
@@ -91,7 +91,7 @@ module _ (keys : List Key) (before : List ℕ) {places : List ℕ} (few : length
       ∙ firsts-length
 
   -- the places of the keys
-  pub laid-entry : (i : ℕ) → i < length keys → (choice : Bool) → entryOf places i choice ≡ placeIn keys i choice
+  pub laid-entry : (i : ℕ) → i < length keys → (choice : Bool) → entryOf places i choice ≡ keyPlace keys i choice
   unfolding laidInto entryOf
   laid-entry i lt false =
       rw laid

@@ -3,7 +3,7 @@
 use Prim.Native.Nat.{ℕ, zero, suc, _+_, _*_, _-_, _≤_, _<_}
 use mathlib.Core.Path.{_≡_, refl, sym, _∙_, ap}
 use mathlib.Core.Logic.{_≢_}
-use mathlib.Core.Bool.{Bool, true, false, not}
+use mathlib.Core.Bool.{Bool, true, false, not, Bool·not-not}
 use mathlib.Core.List.{List}
 use mathlib.Core.Option.{none, some}
 use native.Mathlib.Decide.{ℕ-discrete}
@@ -16,6 +16,7 @@ use lib.Seq.{getD-set-same, getD-set-other}
 use borrow.Author.Count.{below-more}
 use Rattle.refusal.specs.Limits.{groupMax}
 use Rattle.filling.specs.Filling.{Key, placeBy, Fills}
+use Rattle.filling.specs.WordLaws.{other-number}
 use Rattle.filling.specs.Eviction.{State, placeUnder, goal, occupant, start, seatKey, evictKey, Reached, started, seats, evicts, sequenceOf}
 use Rattle.filling.specs.EvictionLaws.{Has, replicate-zero, reached-choice, reached-among, reached-who, reached-cells, reached-goal, gives-up-none, seated-fills}
 use Rattle.group.specs.Group.{groupUnder, leastSeed}
@@ -79,17 +80,6 @@ otherUnder keys choices i = placeBy (not (eqb (getD choices i 0) 1)) (getD keys 
 cellOf : List Key → List ℕ → ℕ → ℕ
 cellOf keys choices zero = 0
 cellOf keys choices (suc i) = suc (otherUnder keys choices i)
-
--- The toggled choice leads to the other place, and its other place is the one before.
-toggled-choice : (c : ℕ) → c < 2 → eqb (1 - c) 1 ≡ not (eqb c 1)
-toggled-choice zero lt = refl
-toggled-choice (suc zero) lt = refl
-toggled-choice (suc (suc c)) lt = absurd (omega arith)
-
-twice-toggled : (c : ℕ) → c < 2 → not (eqb (1 - c) 1) ≡ eqb c 1
-twice-toggled zero lt = refl
-twice-toggled (suc zero) lt = refl
-twice-toggled (suc (suc c)) lt = absurd (omega arith)
 
 -- Only the choice of the occupant counts.
 cellOf-same : (keys : List Key) (choices choices′ : List ℕ) (o : ℕ) → ((i : ℕ) → o ≡ i + 1 → getD choices′ i 0 ≡ getD choices i 0)
@@ -349,8 +339,8 @@ module _
             (λ v i n e m. n (reached-who (turn .reached) v i e .place ∙ ap (placeUnder keys (turn .choices)) m ∙ sym (it .place)))
             (turn .match);
         goes = λ lt. record {
-          to = next ∙ rw (here, toggled-choice was two);
-          back = it .place ∙ rw (here, twice-toggled was two);
+          to = next ∙ rw (here, other-number was two);
+          back = it .place ∙ rw (here, other-number was two, Bool·not-not);
         };
       }
         where

@@ -11,7 +11,7 @@ use borrow.Author.Needs.{needs}
 use Rattle.group.specs.Group.{groupUnder}
 use Rattle.group.specs.GroupLaws.{group-size}
 use Rattle.filling.specs.Filling.{Key}
-use Rattle.filling.specs.LightestLaws.{placeIn}
+use Rattle.filling.specs.Separate.{keyPlace}
 use Rattle.places.specs.Array.{entryOf, placesBy, laidInto}
 use Rattle.candidates.specs.LaidLaws.{group-place, group-within}
 use Rattle.seeds.specs.Occupancy.{occupancy}
@@ -47,7 +47,7 @@ cells c = c .candidate-places .last .1 .1 .1 .0
 laid : (c : Laid) → cells c ≡ laidInto (keys c) (c .before .before .before .args .places .now)
 laid c = rw (c .before .before .before .pre .1) at (c .candidate-places .ensures)
 
-place-of : (c : Laid) (i : ℕ) → i < length (tags c) → (choice : Bool) → entryOf (cells c) i choice ≡ placeIn (keys c) i choice
+place-of : (c : Laid) (i : ℕ) → i < length (tags c) → (choice : Bool) → entryOf (cells c) i choice ≡ keyPlace (keys c) i choice
 place-of c = group-place (tags c) (seed c) _ (omega arith) (omega arith) (laid c)
 
 within : (c : Laid) (i : ℕ) → i < length (tags c) → (choice : Bool) → entryOf (cells c) i choice < length (tags c)
