@@ -2,15 +2,17 @@
 use Prim.Native.Nat.{ℕ, zero, suc, _+_, _*_, _-_, _/_, _%_, _^_, _<_}
 use mathlib.Core.Path.{_≡_, refl, sym, _∙_, ap}
 use mathlib.Core.Bool.{Bool, true, false}
+use mathlib.Core.List.{List}
 use native.Mathlib.Nat.{pow-suc, pow-succ', div-div-eq-div-mul}
 use native.Mathlib.Numerals.{add-one}
 use native.Mathlib.Omega.{arith}
 use lib.Bits.{bitXor, xor-step, xor-zero-r, xor-lt, differ}
+use lib.ListN.{length}
 use lib.Pow.{pow-lt}
 use Rattle.bits.specs.Bit.{bitAt, setBit}
 use Rattle.bits.specs.BitLaws.{bit-below, bit-same, bit-other, setBit-below}
-use Rattle.filling.specs.Word.{choiceNumber, choicesOf}
-use Rattle.filling.specs.WordLaws.{number-choice, other-number}
+use Rattle.filling.specs.Word.{choiceNumber, wordOf, choicesOf}
+use Rattle.filling.specs.WordLaws.{number-choice, other-number, word-choices}
 use Rattle.filling.specs.Separate.{byIndex}
 use Rattle.filling.specs.Insertion.{Toggled}
 use Rattle.bits.specs.WordBits.{choiceIn, toggleBit}
@@ -43,6 +45,10 @@ unfolding choiceIn choicesOf bitAt
 choicesOf-at zero w i lt = absurd (omega arith)
 choicesOf-at (suc n) w zero lt = refl
 choicesOf-at (suc n) w (suc i) lt = choicesOf-at n (w / 2) i (omega arith)
+
+-- The choice that a sequence's word has for key i is the choice with index i.
+pub word-choice : (cs : List Bool) (i : ℕ) → i < length cs → choiceIn (wordOf cs) i ≡ byIndex cs i
+word-choice cs i lt = choicesOf-at (length cs) (wordOf cs) i lt ∙ rw (word-choices cs)
 
 -- The other bits of a word whose bit p + 1 is toggled.
 toggle-half : (w p : ℕ) → (toggleBit (w / 2) p * 2 + w % 2) / 2 ≡ toggleBit (w / 2) p

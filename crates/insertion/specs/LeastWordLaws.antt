@@ -1,6 +1,6 @@
 -- What weighted insertion leads to: the lightest word of the keys of an array is that of their least sequence. Assumes nothing.
 use Prim.Native.Nat.{ℕ, _≤_, _<_}
-use mathlib.Core.Path.{_≡_, refl, sym, _∙_, ap}
+use mathlib.Core.Path.{_≡_, refl, sym, _∙_}
 use mathlib.Core.Bool.{Bool}
 use mathlib.Core.List.{List}
 use mathlib.Core.Option.{Option, none, some, Option·map}
@@ -10,7 +10,7 @@ use Rattle.lists.specs.UpTo.{upTo}
 use Rattle.filling.specs.Separate.{byIndex, keyPlace, Separate}
 use Rattle.filling.specs.FillingLaws.{fills-apart}
 use Rattle.filling.specs.Word.{wordOf, choicesOf}
-use Rattle.filling.specs.WordLaws.{choicesOf-length, choices-word, word-choices, word-below}
+use Rattle.filling.specs.WordLaws.{choicesOf-length, choices-word, word-below}
 use Rattle.filling.specs.Least.{least}
 use Rattle.filling.specs.LeastLaws.{least-fills, least-none}
 use Rattle.filling.specs.Weight.{keyWeight}
@@ -18,7 +18,7 @@ use Rattle.filling.specs.Insertion.{Lightest}
 use Rattle.filling.specs.InsertionLaws.{lightest-same}
 use Rattle.filling.specs.LightestLaws.{lightest-least, separate-fills, least-lightest}
 use Rattle.bits.specs.WordBits.{choiceIn}
-use Rattle.bits.specs.WordBitsLaws.{choicesOf-at}
+use Rattle.bits.specs.WordBitsLaws.{choicesOf-at, word-choice}
 use Rattle.places.specs.Array.{entryOf, keysOf}
 use Rattle.places.specs.ArrayLaws.{keysOf-length, keysOf-place}
 use Rattle.insertion.specs.Inserted.{LightestWord}
@@ -63,11 +63,6 @@ module _ (places : List ℕ) (count : ℕ) where
       → LightestWord places count word
   word-lightest word few = go (least (keysOf count places)) refl
     where
-      bits : (cs : List Bool) → length cs ≡ count → (i : ℕ) → i < count → byIndex cs i ≡ choiceIn (wordOf cs) i
-      bits cs whole i lt =
-          let back : choicesOf count (wordOf cs) ≡ cs = rw whole at (word-choices cs) in
-          sym (choicesOf-at count (wordOf cs) i lt ∙ ap (λ (xs : List Bool). byIndex xs i) back)
-
       go : (o : Option (List Bool)) → least (keysOf count places) ≡ o → some word ≡ Option·map wordOf o
           → LightestWord places count word
       go none e z = absurd (let n : _≡_ {A = ℕ} 0 1 = cc in omega arith)
@@ -78,7 +73,7 @@ module _ (places : List ℕ) (count : ℕ) where
             below = rw whole at (word-below cs);
             lightest =
                 lightest-same (keyPlace (keysOf count places)) (entryOf places) keyWeight count
-                (byIndex cs) (choiceIn (wordOf cs)) (keysOf-place count places) (bits cs whole)
+                (byIndex cs) (choiceIn (wordOf cs)) (keysOf-place count places) (λ i lt. sym (word-choice cs i (omega arith)))
                 (rw sized at (least-lightest (keysOf count places) (omega (arith, sized)) e));
           })
 
