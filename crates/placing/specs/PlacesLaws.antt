@@ -18,13 +18,10 @@ module _ (tags : List ℕ) (before : List ℕ) (few : length tags ≤ groupMax) 
   after-length zero = size
   after-length (suc s) = group-cells tags s (laidAfter tags s before) few (after-length s) refl
 
-  module _ (s limit : ℕ) {places : List ℕ} (left : places ≡ laidAfter tags (tried (some s) limit) before) where
-    -- Under the seed found, both places of each tag are below 24,
-    pub left-candidates : Candidates places (length tags)
-    unfolding tried laidAfter
-    left-candidates = group-candidates tags s (laidAfter tags s before) few (after-length s) left
-
-    -- and the array states the group's keys.
-    pub left-keys : keysOf (length tags) places ≡ groupUnder tags s
-    unfolding tried laidAfter
-    left-keys = group-keys tags s (laidAfter tags s before) few (after-length s) left
+  -- Under the seed found, both places of each tag are below 24, and the array states the group's keys.
+  pub left-places : (s limit : ℕ) {places : List ℕ} → places ≡ laidAfter tags (tried (some s) limit) before
+      → Candidates places (length tags) × (keysOf (length tags) places ≡ groupUnder tags s)
+  unfolding tried laidAfter
+  left-places s limit left =
+      let laid = laidAfter tags s before in
+      (group-candidates tags s laid few (after-length s) left, group-keys tags s laid few (after-length s) left)
