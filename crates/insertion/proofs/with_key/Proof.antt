@@ -1,16 +1,27 @@
 -- `insertion::with_key` meets its contract: at a free first place no key moves, at a free second one key k weighs less than a move
 -- of a key before it, and otherwise both insertions are made. Assumes nothing.
-use Prim.Native.Nat.{_+_}
+use Prim.Native.Nat.{_+_, _<_}
 use mathlib.Core.Path.{refl}
 use mathlib.Core.Bool.{true, false}
 use native.Mathlib.Omega.{arith}
+use lib.ListN.{getD}
 use borrow.Author.Needs.{needs}
+use Rattle.refusal.specs.Limits.{groupMax}
 use Rattle.places.specs.Array.{entryOf}
 use Rattle.insertion.specs.Occupants.{occupantsAfter}
 use Rattle.insertion.specs.LeastWordLaws.{word-lightest}
 use Rattle.insertion.specs.InsertedLaws.{place-within, cells-size, first-free, second-free, first-occupied, second-occupied}
 use Rattle.insertion.proofs.with_key.Statement.{statement}
 use Rattle.insertion.proofs.with_key.Tie as tie
+
+-- Both places of key k have a cell.
+first : (c : tie.Start) → getD (c .args .places .now) (c .args .k) 0 < groupMax
+unfolding entryOf
+first c = place-within _ _ _ (c .pre .0) false
+
+second : (c : tie.Start) → getD (c .args .places .now) (groupMax + c .args .k) 0 < groupMax
+unfolding entryOf
+second c = place-within _ _ _ (c .pre .0) true
 
 mul-first : tie.Need-mul-first
 mul-first c = search needs
@@ -19,43 +30,27 @@ shared-slice-read-first : tie.Need-shared-slice-read-first
 shared-slice-read-first c = search needs
 
 cast-first : tie.Need-cast-first
-unfolding entryOf
-cast-first c =
-    let start = c .before .before in
-    record { fits = omega (arith, place-within _ _ _ (start .pre .0) false) }
+cast-first c = record { fits = omega (arith, first (c .before .before)) }
 
 mul-if1 : tie.Need-mul-if1
-unfolding entryOf
-mul-if1 c =
-    let start = c .before .before in
-    record { fits = omega (arith, place-within _ _ _ (start .pre .0) false) }
+mul-if1 c = record { fits = omega (arith, first (c .before .before)) }
 
 element-copy-out-if1 : tie.Need-element-copy-out-if1
-unfolding entryOf
-element-copy-out-if1 c =
-    let start = c .before .before in
-    omega (arith, place-within _ _ _ (start .pre .0) false)
+element-copy-out-if1 c = omega (arith, first (c .before .before))
 
 add-occupants : tie.Need-add-occupants
 add-occupants c = search needs
 
 mul-occupants : tie.Need-mul-occupants
-unfolding entryOf
-mul-occupants c =
-    let start = c .before .before .before .before in
-    record { fits = omega (arith, place-within _ _ _ (start .pre .0) false) }
+mul-occupants c = record { fits = omega (arith, first (c .before .before .before .before)) }
 
 element-write-occupants : tie.Need-element-write-occupants
-unfolding entryOf
-element-write-occupants c =
-    let start = c .before .before .before .before in
-    omega (arith, place-within _ _ _ (start .pre .0) false)
+element-write-occupants c = omega (arith, first (c .before .before .before .before))
 
 returns : tie.Need-returns
 unfolding occupantsAfter entryOf
 returns c =
-    let start = c .before .before .before .before in
-    let pre = start .pre in
+    let pre = c .before .before .before .before .pre in
     (first-free _ _ _ (pre .0) (pre .1) (c .if1 .taken), first-occupied _ _ _ (pre .0) (pre .1) (c .if1 .taken))
 
 add-second : tie.Need-add-second
@@ -68,37 +63,22 @@ shared-slice-read-second : tie.Need-shared-slice-read-second
 shared-slice-read-second c = search needs
 
 cast-second : tie.Need-cast-second
-unfolding entryOf
-cast-second c =
-    let start = c .before .before .before .before .before in
-    record { fits = omega (arith, place-within _ _ _ (start .pre .0) true) }
+cast-second c = record { fits = omega (arith, second (c .before .before .before .before .before)) }
 
 mul-if2 : tie.Need-mul-if2
-unfolding entryOf
-mul-if2 c =
-    let start = c .before .before .before .before .before in
-    record { fits = omega (arith, place-within _ _ _ (start .pre .0) true) }
+mul-if2 c = record { fits = omega (arith, second (c .before .before .before .before .before)) }
 
 element-copy-out-if2 : tie.Need-element-copy-out-if2
-unfolding entryOf
-element-copy-out-if2 c =
-    let start = c .before .before .before .before .before in
-    omega (arith, place-within _ _ _ (start .pre .0) true)
+element-copy-out-if2 c = omega (arith, second (c .before .before .before .before .before))
 
 add-occupants-2 : tie.Need-add-occupants-2
 add-occupants-2 c = search needs
 
 mul-occupants-2 : tie.Need-mul-occupants-2
-unfolding entryOf
-mul-occupants-2 c =
-    let start = c .before .before .before .before .before .before .before in
-    record { fits = omega (arith, place-within _ _ _ (start .pre .0) true) }
+mul-occupants-2 c = record { fits = omega (arith, second (c .before .before .before .before .before .before .before)) }
 
 element-write-occupants-2 : tie.Need-element-write-occupants-2
-unfolding entryOf
-element-write-occupants-2 c =
-    let start = c .before .before .before .before .before .before .before in
-    omega (arith, place-within _ _ _ (start .pre .0) true)
+element-write-occupants-2 c = omega (arith, second (c .before .before .before .before .before .before .before))
 
 with-bit-requires : tie.Need-with-bit-requires
 with-bit-requires c κs = search needs
@@ -108,8 +88,7 @@ unfolding occupantsAfter entryOf
 returns-2 c =
     let second = c .before in
     let first = second .before .before .before in
-    let start = first .before .before .before .before in
-    let pre = start .pre in
+    let pre = first .before .before .before .before .pre in
     rw (c .with-bit .ensures) (
       second-free _ _ _ (pre .0) (pre .1) (second .if2 .taken) (first .if1 .left),
       second-occupied _ _ _ (pre .0) (pre .1) (second .if2 .taken),
