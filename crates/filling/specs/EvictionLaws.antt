@@ -27,7 +27,8 @@ use Rattle.filling.specs.FillingLaws.{fills-apart, apart-fills}
 use Rattle.filling.specs.Separate.{byIndex, keyPlace, Apart}
 use Rattle.filling.specs.Weight.{choiceWeight, total, count}
 use Rattle.filling.specs.WeightLaws.{count-most, total-has, total-change}
-use Rattle.filling.specs.Eviction.{State, allowance, placeUnder, goal, occupant, start, seatKey, evictKey, Reached, started, seats, evicts, GivesUp, sequenceOf}
+use Rattle.filling.specs.Eviction.{State, allowance, placeUnder, goal, occupant, start, seatKey, evictKey, Reached, started, seats}
+use Rattle.filling.specs.Eviction.{evicts, GivesUp, sequenceOf}
 
 -- The potential of m keys, a of which agree, the moving key among these or not.
 abbrev pub potentialOf : Bool → ℕ → ℕ → ℕ

@@ -10,7 +10,8 @@ use native.Mathlib.Omega.{arith}
 use lib.ListN.{length}
 use Rattle.lists.specs.FirstLaws.{some-of-isSome, none-of-isSome}
 use Rattle.lists.specs.Occurs.{occurs, distinct}
-use Rattle.lists.specs.OccursLaws.{occurs-here, occurs-there, occurs-cases, occurs-not, absent-cons, absent-tail, distinct-head, distinct-tail, distinct-cons}
+use Rattle.lists.specs.OccursLaws.{occurs-here, occurs-there, occurs-cases, occurs-not, absent-cons, absent-tail, distinct-head}
+use Rattle.lists.specs.OccursLaws.{distinct-tail, distinct-cons}
 use Rattle.filling.specs.Filling.{Key, placeBy, chosen, Fills}
 use Rattle.filling.specs.Least.{NotAfter, beginning, leastFrom, least, feasible}
 

@@ -16,13 +16,15 @@ use lib.Seq.{getD-set-same, getD-set-other}
 use borrow.Author.Count.{below-more}
 use Rattle.refusal.specs.Limits.{groupMax}
 use Rattle.filling.specs.Filling.{Key, placeBy, Fills}
+use Rattle.filling.specs.Separate.{keyPlace}
 use Rattle.filling.specs.WordLaws.{other-number}
 use Rattle.filling.specs.Eviction.{State, placeUnder, goal, occupant, start, seatKey, evictKey, Reached, started, seats, evicts, sequenceOf}
-use Rattle.filling.specs.EvictionLaws.{Has, replicate-zero, reached-choice, reached-among, reached-who, reached-cells, reached-goal, gives-up-none, seated-fills}
+use Rattle.filling.specs.EvictionLaws.{Has, replicate-zero, reached-choice, reached-among, reached-who, reached-cells, reached-goal}
+use Rattle.filling.specs.EvictionLaws.{gives-up-none, seated-fills}
 use Rattle.group.specs.Group.{groupUnder, leastSeed}
 use Rattle.group.specs.GroupLaws.{NoneFills, group-size, group-below, leastSeed-only, leastSeed-out}
 use Rattle.places.specs.Array.{entryOf, laidInto}
-use Rattle.candidates.specs.LaidLaws.{group-cells, group-place, group-within}
+use Rattle.candidates.specs.LaidLaws.{group-cells, group-place}
 use Rattle.seeds.specs.Occupancy.{occupancyOf}
 use Rattle.seeds.specs.OccupancyLaws.{ones-none}
 use Rattle.seeds.specs.Tried.{laidAfter}
@@ -132,9 +134,7 @@ record Goes (keys : List Key) (choices : List ℕ) (moving place other : ℕ) : 
 -- The eviction loop: the candidate places are laid out, the state is reached, and the cells match its occupants.
 pub record Turn (tags : List ℕ) (s : ℕ) (places others : List ℕ) (seated place other left : ℕ) : Type 0 where
   pub few : length tags ≤ groupMax
-  before : List ℕ
-  size : length before ≡ 2 * groupMax
-  cells : places ≡ laidInto (groupUnder tags s) before
+  own : (i : ℕ) → i < length tags → (choice : Bool) → entryOf places i choice ≡ keyPlace (groupUnder tags s) i choice
   pub upto : seated ≤ length tags
   pub allowed : left ≤ 2 * seated + 1
   pub room : length others ≡ groupMax
@@ -153,9 +153,7 @@ pub turn-start : (tags : List ℕ) (s : ℕ) (before : List ℕ) {places : List 
 unfolding start Matches cellOf placeUnder otherUnder entryOf
 turn-start tags s before {places} size cells few = record {
   few = few;
-  before = before;
-  size = size;
-  cells = cells;
+  own = group-place tags s before few size cells;
   upto = omega arith;
   allowed = omega arith;
   room = length-replicate {A = ℕ} groupMax 0;
@@ -242,9 +240,7 @@ module _
       unfolding seatKey
       seated-next choice two place′ other′ goes = record {
         few = turn .few;
-        before = turn .before;
-        size = turn .size;
-        cells = turn .cells;
+        own = turn .own;
         upto = omega (arith, unseated);
         allowed = omega arith;
         room = length-set others place (other + 1) ∙ turn .room;
@@ -274,8 +270,8 @@ module _
       module _ (next : seated + 1 < length tags) where
         pub next-first : entryOf places (seated + 1) false < groupMax
         next-first =
-            let within = group-within tags s (turn .before) (turn .few) (turn .size) (turn .cells) (seated + 1) next false in
-            omega (arith, turn .few)
+            let below = group-below tags s (seated + 1) (omega (arith, group-size tags s)) false in
+            omega (arith, turn .own (seated + 1) next false, turn .few)
 
         -- The next tag enters at its place under a choice.
         enters : (choice : Bool) (c : ℕ) → c < 2 → eqb c 1 ≡ choice
@@ -283,7 +279,7 @@ module _
             (entryOf places (seated + 1) choice) (entryOf places (seated + 1) (not choice)) (2 * (seated + 1) + 1)
         unfolding placeUnder otherUnder
         enters choice c two is =
-            let own = group-place tags s (turn .before) (turn .few) (turn .size) (turn .cells) (seated + 1) next in
+            let own = turn .own (seated + 1) next in
             seated-next c two (entryOf places (seated + 1) choice) (entryOf places (seated + 1) (not choice))
             (λ lt. record { to = rw (entered c next, is) (own choice); back = rw (entered c next, is) (own (not choice)) })
 
@@ -321,9 +317,7 @@ module _
       unfolding evictKey placeUnder otherUnder
       turn-evict further = record {
         few = turn .few;
-        before = turn .before;
-        size = turn .size;
-        cells = turn .cells;
+        own = turn .own;
         upto = turn .upto;
         allowed = omega (arith, turn .allowed);
         room = length-set others place (other + 1) ∙ turn .room;
