@@ -42,17 +42,7 @@ module _ {groups : ℕ} {ordered ends seeds words before : List ℕ}
       -- It can be arranged into the cells that the code lends.
       pub part-arrangeable : Arrangeable (take (getD ends g 0 - start) (drop start ordered)) (getD seeds g 0) (getD words g 0)
           (length (take (getD ends g 0 - start) (drop start slots)))
-      part-arrangeable =
-          let e = a .each g lt in
-          rw (part-is (a .parts) g (f .start-is))
-          record {
-            few = e .few;
-            seed-legal = e .seed-legal;
-            differ = e .differ;
-            filled = e .filled;
-            word-is = e .word-is;
-            room-is = cells-for;
-          }
+      part-arrangeable = rw (part-is (a .parts) g (f .start-is), cells-for) (a .each g lt)
         where
           cells-for : length (take (getD ends g 0 - start) (drop start slots)) ≡ length (partOf ordered ends g)
           cells-for =

@@ -27,7 +27,7 @@ use Rattle.places.specs.ArrayLaws.{entry-other, entry-part, candidates-fewer}
 use Rattle.insertion.specs.Answer.{insertedMeaning}
 use Rattle.insertion.specs.LeastWordLaws.{lightest-word, word-lightest, nothing-word}
 use Rattle.insertion.specs.WordWeight.{wordWeight, lighterOf}
-use Rattle.insertion.specs.Occupants.{occupantsOf, Occupied}
+use Rattle.insertion.specs.Occupants.{placeTaken, occupantsOf, Occupied}
 use Rattle.insertion.specs.OccupantsLaws.{occupied-same, free-untaken, cell-taken, occupied-more, occupied-only, occupied-of}
 use Rattle.insertion.specs.Inserted.{LightestWord, LightestWordWith, InsertedIs}
 use Rattle.insertion.specs.declared.Inserted.{Inserted}
@@ -53,12 +53,12 @@ module _ (places : List ℕ) where
   pub record Inserting (k word choices place left : ℕ) : Type 0 where
     pub below : choices < 2 ^ (k + 1)
     pub displaced : ℕ
-    pub going : entryOf places displaced (choiceIn choices displaced) ≡ place
+    pub going : placeTaken places choices displaced ≡ place
     pub insertion : Insertion (entryOf places) k (choiceIn word) (choiceIn choices) displaced left
     pub walk : Walk (entryOf places) k (choiceIn word) (choiceIn choices) displaced
 
   pub inserting-start : (k word : ℕ) → word < 2 ^ (k + 1) → Lightest (entryOf places) keyWeight k (choiceIn word)
-      → Inserting k word word (entryOf places k (choiceIn word k)) k
+      → Inserting k word word (placeTaken places word k) k
   inserting-start k word below light = record {
     below = below;
     displaced = k;
@@ -91,11 +91,10 @@ module _ (places : List ℕ) where
         occupant-below : o < k
         occupant-below = occupied .who place o cell .0
 
-        had : entryOf places o (choiceIn word o) ≡ place
+        had : placeTaken places word o ≡ place
         had = occupied .who place o cell .1
 
-        goes : entryOf places o (choiceIn word o)
-            ≡ entryOf places (state .displaced) (choiceIn choices (state .displaced))
+        goes : placeTaken places word o ≡ placeTaken places choices (state .displaced)
         goes = had ∙ sym (state .going)
 
         -- Where it has moved since, nothing separates the keys.

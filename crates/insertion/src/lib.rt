@@ -19,7 +19,7 @@ ghost use Rattle.filling.specs.Insertion.{Lightest};
 ghost use Rattle.bits.specs.WordBits.{choiceIn};
 ghost use Rattle.places.specs.Array.{entryOf, Candidates, keysOf};
 ghost use Rattle.insertion.specs.Answer.{insertedMeaning};
-ghost use Rattle.insertion.specs.Occupants.{occupantsOf, occupantsAfter, Occupied};
+ghost use Rattle.insertion.specs.Occupants.{placeTaken, occupantsOf, occupantsAfter, Occupied};
 ghost use Rattle.insertion.specs.Inserted.{InsertedIs};
 
 // The word with one key more, or that no sequence fills with it.
@@ -129,7 +129,7 @@ fn occupy(places: &[u32], word: u32, count: u32, occupants: &mut [u32; MEMBER_CE
 // The place that key i takes under the word's choice.
 fn place_taken(places: &[u32], word: u32, i: u32) -> u32
     requires { ⌜ (i < groupMax) × (length (now places) ≡ 2 * groupMax) ⌝ }
-    ensures answer { λ r. ⌜ r ≡ entryOf (now (places .entry)) i (choiceIn word i) ⌝ }
+    ensures answer { λ r. ⌜ r ≡ placeTaken (now (places .entry)) word i ⌝ }
 {
     if choice_at(word, i) == 1 {
         places[MEMBER_CELLS + i as usize]
