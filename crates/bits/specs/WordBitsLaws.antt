@@ -9,13 +9,13 @@ use native.Mathlib.Omega.{arith}
 use lib.Bits.{bitXor, xor-step, xor-zero-r, xor-lt, differ}
 use lib.ListN.{length}
 use lib.Pow.{pow-lt}
-use Rattle.bits.specs.Bit.{bitAt, setBit}
+use Rattle.bits.specs.Bit.{bitAt}
 use Rattle.bits.specs.BitLaws.{bit-below, bit-same, bit-other, setBit-below}
 use Rattle.filling.specs.Word.{choiceNumber, wordOf, choicesOf}
 use Rattle.filling.specs.WordLaws.{number-choice, other-number, word-choices}
 use Rattle.filling.specs.Separate.{byIndex}
 use Rattle.filling.specs.Insertion.{Toggled}
-use Rattle.bits.specs.WordBits.{choiceIn, toggleBit}
+use Rattle.bits.specs.WordBits.{choiceIn, toggleBit, withChoice}
 
 -- A bit is the lowest bit of the word shifted.
 bit-shifted : (w p : ℕ) → w / 2 ^ p % 2 ≡ bitAt w p
@@ -99,28 +99,30 @@ toggle-toggled w o = record {
   others = λ i n. rw (toggle-other w o i n);
 }
 
--- A word of k bits has choice 0 for key k,
+-- A word of k bits has bit k clear, and k + 1 bits too.
 bit-past : (k w : ℕ) → w < 2 ^ k → bitAt w k ≡ 0
 unfolding bitAt
 bit-past zero w lt = omega arith
 bit-past (suc k) w lt = bit-past k (w / 2) (omega (arith, pow-suc 2 k))
 
-pub choice-past : (k w : ℕ) → w < 2 ^ k → choiceIn w k ≡ false
-unfolding choiceIn
-choice-past k w lt = rw (bit-past k w lt)
-
--- and with bit k set choice 1 for it, and the same choices below.
-pub choice-set : (w k : ℕ) → choiceIn (setBit w k) k ≡ true
-unfolding choiceIn
-choice-set w k = rw (bit-same w k)
-
-pub choice-kept : (w k i : ℕ) → i < k → choiceIn w i ≡ choiceIn (setBit w k) i
-unfolding choiceIn
-choice-kept w k i lt = rw (bit-other w k i (λ e. omega arith))
-
--- Both are words of one bit more.
-pub word-grown : (k w : ℕ) → w < 2 ^ k → w < 2 ^ (k + 1)
+word-grown : (k w : ℕ) → w < 2 ^ k → w < 2 ^ (k + 1)
 word-grown k w lt = rw (add-one k) (omega (arith, pow-suc 2 k))
 
-pub set-grown : (k w : ℕ) → w < 2 ^ k → setBit w k < 2 ^ (k + 1)
-set-grown k w lt = setBit-below (k + 1) w k (word-grown k w lt) (omega arith)
+module _ (k w : ℕ) (below : w < 2 ^ k) where
+  -- With a choice of key k it has this choice for key k,
+  pub choice-own : (c : Bool) → choiceIn (withChoice w k c) k ≡ c
+  unfolding choiceIn withChoice
+  choice-own false = rw (bit-past k w below)
+  choice-own true = rw (bit-same w k)
+
+  -- the same choices below,
+  pub choice-kept : (c : Bool) (i : ℕ) → i < k → choiceIn w i ≡ choiceIn (withChoice w k c) i
+  unfolding choiceIn withChoice
+  choice-kept false i lt = refl
+  choice-kept true i lt = rw (bit-other w k i (λ e. omega arith))
+
+  -- and k + 1 bits.
+  pub choice-grown : (c : Bool) → withChoice w k c < 2 ^ (k + 1)
+  unfolding withChoice
+  choice-grown false = word-grown k w below
+  choice-grown true = setBit-below (k + 1) w k (word-grown k w below) (omega arith)

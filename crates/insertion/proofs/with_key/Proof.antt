@@ -7,10 +7,11 @@ use native.Mathlib.Omega.{arith}
 use lib.ListN.{getD}
 use borrow.Author.Needs.{needs}
 use Rattle.refusal.specs.Limits.{groupMax}
+use Rattle.bits.specs.WordBits.{withChoice}
 use Rattle.places.specs.Array.{entryOf}
 use Rattle.insertion.specs.Occupants.{occupantsAfter}
 use Rattle.insertion.specs.LeastWordLaws.{word-lightest}
-use Rattle.insertion.specs.InsertedLaws.{place-within, cells-size, first-free, second-free, first-occupied, second-occupied}
+use Rattle.insertion.specs.InsertedLaws.{place-within, cells-size, first-free, second-free, free-occupied}
 use Rattle.insertion.proofs.with_key.Statement.{statement}
 use Rattle.insertion.proofs.with_key.Tie as tie
 
@@ -48,10 +49,10 @@ element-write-occupants : tie.Need-element-write-occupants
 element-write-occupants c = omega (arith, first (c .before .before .before .before))
 
 returns : tie.Need-returns
-unfolding occupantsAfter entryOf
+unfolding occupantsAfter entryOf withChoice
 returns c =
     let pre = c .before .before .before .before .pre in
-    (first-free _ _ _ (pre .0) (pre .1) (c .if1 .taken), first-occupied _ _ _ (pre .0) (pre .1) (c .if1 .taken))
+    (first-free _ _ _ (pre .0) (pre .1) (c .if1 .taken), free-occupied _ _ _ (pre .0) (pre .1) false (c .if1 .taken))
 
 add-second : tie.Need-add-second
 add-second c = search needs
@@ -84,14 +85,14 @@ with-bit-requires : tie.Need-with-bit-requires
 with-bit-requires c κs = search needs
 
 returns-2 : tie.Need-returns-2
-unfolding occupantsAfter entryOf
+unfolding occupantsAfter entryOf withChoice
 returns-2 c =
     let second = c .before in
     let first = second .before .before .before in
     let pre = first .before .before .before .before .pre in
     rw (c .with-bit .ensures) (
       second-free _ _ _ (pre .0) (pre .1) (second .if2 .taken) (first .if1 .left),
-      second-occupied _ _ _ (pre .0) (pre .1) (second .if2 .taken),
+      free-occupied _ _ _ (pre .0) (pre .1) true (second .if2 .taken),
     )
 
 evicting-requires : tie.Need-evicting-requires
