@@ -1,7 +1,7 @@
 -- The steps of weighted insertion, over an array of places and a word: a law for each step of the code. Assumes nothing.
 use Prim.Native.Nat.{ℕ, suc, _+_, _-_, _^_, _≤_, _<_}
 use mathlib.Core.Path.{_≡_, refl, sym, _∙_, ap}
-use mathlib.Core.Bool.{Bool, true, false, cond}
+use mathlib.Core.Bool.{Bool, true, false, not, cond}
 use mathlib.Core.List.{List}
 use mathlib.Core.Option.{some, Option·map}
 use native.Mathlib.Numerals.{add-one}
@@ -166,14 +166,18 @@ module _ (places : List ℕ) where
     lightest-up v small light =
         lightest-word places (k + 1) v (omega (arith, before .0)) (record { below = small; lightest = rw (add-one k) light })
 
-    -- Where the first has no result, that of the second stays.
+    -- Where the insertion with one choice has no result, that with the other stays.
+    pub one-stays : (c : Bool) (v : ℕ) → InsertedIs places k (withChoice word k c) (Word v)
+        → InsertedIs places k (withChoice word k (not c)) Nothing → WithKeyIs places k (Word v)
+    one-stays c v inserted other =
+        let light = chosen-lightest c inserted in
+        lightest-up v (light .below)
+        (only-lightest (entryOf places) keyWeight k c (choiceIn v) (light .lightest) (chosen-none (not c) other))
+
     pub second-stays : (r : Inserted) → InsertedIs places k word Nothing → InsertedIs places k (setBit word k) r
         → WithKeyIs places k r
     unfolding withChoice
-    second-stays (Word b) first second =
-        let light = chosen-lightest true second in
-        lightest-up b (light .below)
-        (only-lightest (entryOf places) keyWeight k true (choiceIn b) (light .lightest) (chosen-none false first))
+    second-stays (Word b) first second = one-stays true b second first
     second-stays Nothing first second =
         nothing-word places (k + 1)
         (rw (← add-one k) at (neither-separate (entryOf places) k (chosen-none false first) (chosen-none true second)))
@@ -232,15 +236,6 @@ module _ (places : List ℕ) where
           (second-place-lightest (entryOf places) k (omega (arith, before .0)) (choiceIn word) (choiceIn (setBit word k))
           (was .lightest) (choice-kept k word (was .below) true) (choice-own k word (was .below) true)
           (cell-taken places occupied (entryOf places k false) busy) (chosen-lightest true (unmoved true free) .lightest))
-
-    -- Where the second has none, that of the first stays.
-    pub first-stays : (a : ℕ) → InsertedIs places k word (Word a) → InsertedIs places k (setBit word k) Nothing
-        → WithKeyIs places k (Word a)
-    unfolding withChoice
-    first-stays a first second =
-        let light = chosen-lightest false first in
-        lightest-up a (light .below)
-        (only-lightest (entryOf places) keyWeight k false (choiceIn a) (light .lightest) (chosen-none true second))
 
     -- Where both have one, the lighter stays.
     pub lighter-stays : (a b : ℕ) → InsertedIs places k word (Word a) → InsertedIs places k (setBit word k) (Word b)

@@ -3,7 +3,7 @@
 use mathlib.Core.Bool.{true, false}
 use borrow.Author.Needs.{needs}
 use Rattle.bits.specs.WordBits.{withChoice}
-use Rattle.insertion.specs.InsertedLaws.{ready, second-stays, first-stays, lighter-stays}
+use Rattle.insertion.specs.InsertedLaws.{ready, one-stays, second-stays, lighter-stays}
 use Rattle.insertion.proofs.evicting.Statement.{statement}
 use Rattle.insertion.proofs.evicting.Tie as tie
 
@@ -53,6 +53,7 @@ enum-told-2 : tie.Need-enum-told-2
 enum-told-2 c = search needs
 
 returns-2 : tie.Need-returns-2
+unfolding withChoice
 returns-2 c =
     let both = c .before .before in
     let known = both .before .before .before in
@@ -60,7 +61,7 @@ returns-2 c =
     let start = inserted .before .before .before in
     let first = rw (known .a .given .1) at (inserted .insert .ensures) in
     let second = rw (both .before .with-bit2 .ensures, c .enum-told2 .given .1) at (both .insert3 .ensures) in
-    first-stays _ _ _ (start .pre .0) _ first second
+    one-stays _ _ _ (start .pre .0) false _ first second
 
 add-lighter : tie.Need-add-lighter
 add-lighter c = search needs
