@@ -9,9 +9,9 @@ use lib.Seq.{take-at, drop-at}
 use borrow.Rule.Slice.PartMut.{putMid, post-is}
 use Rattle.group.specs.Group.{taken}
 use Rattle.numbering.specs.Parts.{partStart, partOf}
+use Rattle.numbering.specs.PartsLaws.{part-length, part-is, part-bounds}
 use Rattle.numbering.specs.GroupSlots.{groupSlots}
 use Rattle.arrange.specs.Arrange.{Arrangeable, AllArrangeable, slotsOfPart, allSlots}
-use Rattle.arrange.specs.PartsLaws.{part-length}
 use Rattle.arrange.specs.SlotsLaws.{slots-none, slots-more, slots-length, slots-kept}
 
 -- The cells begin with the slots of the first g groups, and the others are as they were.
@@ -33,39 +33,20 @@ module _ {groups : ℕ} {ordered ends seeds words before : List ℕ}
     filled-length = ap length (f .cells-are) ∙ slots-kept (a .parts) seeds g (f .upto) before (a .room-enough)
 
     module _ (lt : g < groups) where
-      -- The group's part, as the code takes it.
-      part-is : take (getD ends g 0 - start) (drop start ordered) ≡ partOf ordered ends g
-      unfolding partOf
-      part-is = rw (f .start-is)
-
-      -- It begins before its end, and ends within the tags and within the cells.
-      pub part-follows : start ≤ getD ends g 0
-      part-follows = omega (arith, f .start-is, a .parts .follow g lt)
-
-      pub part-in-tags : getD ends g 0 ≤ length ordered
-      part-in-tags = a .parts .inside g lt
-
-      pub part-in-cells : getD ends g 0 ≤ length slots
-      part-in-cells = omega (arith, filled-length, part-in-tags, a .room-enough)
+      -- The group's part begins no later than it ends, and ends within the tags and within the cells.
+      pub part-within : (start ≤ getD ends g 0) × (getD ends g 0 ≤ length ordered) × (getD ends g 0 ≤ length slots)
+      part-within =
+          let (follows, inside) = part-bounds (a .parts) g (f .start-is) lt in
+          (follows, inside, omega (arith, filled-length, a .room-enough))
 
       -- It can be arranged into the cells that the code lends.
       pub part-arrangeable : Arrangeable (take (getD ends g 0 - start) (drop start ordered)) (getD seeds g 0) (getD words g 0)
           (length (take (getD ends g 0 - start) (drop start slots)))
-      part-arrangeable =
-          let e = a .each g lt in
-          rw part-is
-          record {
-            few = e .few;
-            seed-legal = e .seed-legal;
-            differ = e .differ;
-            filled = e .filled;
-            word-is = e .word-is;
-            room-is = cells-for;
-          }
+      part-arrangeable = rw (part-is (a .parts) g (f .start-is), cells-for) (a .each g lt)
         where
           cells-for : length (take (getD ends g 0 - start) (drop start slots)) ≡ length (partOf ordered ends g)
           cells-for =
-              rw (length-take, length-drop) (omega (arith, part-length (a .parts) g lt, part-in-cells, part-follows, f .start-is))
+              rw (length-take, length-drop) (omega (arith, part-length (a .parts) g lt, part-within, f .start-is))
 
       -- A turn writes the slots of one group more.
       pub filled-turn : {piece : List ℕ}
@@ -88,10 +69,10 @@ module _ {groups : ℕ} {ordered ends seeds words before : List ℕ}
           back : drop (getD ends g 0 - start) (drop start slots) ≡ drop (getD ends g 0) before
           back =
               rw (f .cells-are, drop-at (allSlots ordered ends seeds g) (drop (partStart ends g) before) start many, ← f .start-is)
-              (post-is start (getD ends g 0) before part-follows)
+              (post-is start (getD ends g 0) before (part-within .0))
 
           piece-is : piece ≡ groupSlots (partOf ordered ends g) (getD seeds g 0) (taken (partOf ordered ends g) (getD seeds g 0))
-          piece-is = rw part-is at e
+          piece-is = rw (part-is (a .parts) g (f .start-is)) at e
 
     -- After the last group all slots are written.
     pub filled-done : groups ≤ g → slots ≡ allSlots ordered ends seeds groups ++ drop (partStart ends groups) before

@@ -1,4 +1,3 @@
 pub mod Arrange
 pub mod PlaceLaws
-pub mod PartsLaws
 pub mod SlotsLaws

@@ -13,13 +13,12 @@ use Rattle.lists.specs.Occurs.{distinct}
 use Rattle.lists.specs.OccursLaws.{occurs-not, distinct-head, distinct-tail, getD-occurs, occurs-getD, distinct-getD, onto}
 use Rattle.filling.specs.Filling.{placeBy, chosen, Fills}
 use Rattle.filling.specs.FillingLaws.{chosen-length, chosen-at, chosen-candidate}
-use Rattle.filling.specs.Word.{choiceNumber, wordOf}
-use Rattle.filling.specs.WordLaws.{word-bit}
+use Rattle.filling.specs.Word.{choiceNumber}
 use Rattle.filling.specs.LeastLaws.{feasible-fills}
 use Rattle.group.specs.Group.{bothPlaces, groupUnder, taken}
 use Rattle.group.specs.GroupLaws.{candidates-length, candidate-place, each-candidate, fills-length, taken-fills}
 use Rattle.bits.specs.WordBits.{choiceIn}
-use Rattle.bits.specs.WordBitsLaws.{choice-shifted}
+use Rattle.bits.specs.WordBitsLaws.{word-choice}
 use Rattle.lists.specs.UpTo.{upTo}
 use Rattle.lists.specs.UpToLaws.{upTo-length, upTo-at}
 use Rattle.numbering.specs.Number.{choiceOf, placeIn, tagNumbered}
@@ -38,19 +37,6 @@ choiceOf-at (u ∷ us) (c ∷ cs) (suc i) d l lt =
     let below : i < length us = omega arith in
     let other : getD us i 0 ≡ u → ⊥ = λ e. occurs-not u us (rw e at (getD-occurs us i below)) (distinct-head u us d) in
     rw (ne-eqb (getD us i 0) u other) (choiceOf-at us cs i (distinct-tail u us d) (omega arith) below)
-
--- Choices with one number are one choice.
-choice-same : (b c : Bool) → choiceNumber b ≡ choiceNumber c → b ≡ c
-unfolding choiceNumber
-choice-same false false e = refl
-choice-same false true e = absurd (omega arith)
-choice-same true false e = absurd (omega arith)
-choice-same true true e = refl
-
--- The choice that a sequence's word has for the key with index i is the choice with index i.
-pub word-choice : (cs : List Bool) (i : ℕ) → i < length cs → choiceIn (wordOf cs) i ≡ getD cs i false
-word-choice cs i lt =
-    choice-same (choiceIn (wordOf cs) i) (getD cs i false) (sym (choice-shifted (wordOf cs) i) ∙ word-bit cs i lt)
 
 -- Hashing by the multiplier of a choice gives the place that the choice takes.
 hashed-choice : (n seed t : ℕ) (choice : Bool)

@@ -6,10 +6,11 @@ use native.Mathlib.Omega.{arith}
 use lib.ListN.{length, getD, drop, length-append, length-drop}
 use Rattle.lists.specs.UpTo.{upTo}
 use Rattle.lists.specs.UpToLaws.{flatten-more}
+use Rattle.group.specs.Group.{taken}
 use Rattle.numbering.specs.Parts.{partStart, partOf, Parts}
+use Rattle.numbering.specs.PartsLaws.{start-inside, part-length}
 use Rattle.arrange.specs.Arrange.{slotsOfPart, allSlots}
 use Rattle.numbering.specs.SlotsLaws.{slots-length as groupSlots-length}
-use Rattle.arrange.specs.PartsLaws.{start-inside, part-length}
 
 module _ (ordered ends seeds : List ℕ) where
   -- The slots of no group are none.
@@ -22,22 +23,17 @@ module _ (ordered ends seeds : List ℕ) where
   unfolding allSlots
   slots-more g = flatten-more g (slotsOfPart ordered ends seeds)
 
-  -- A group's slots are as many as the tags of its part.
-  pub slotsOfPart-length : (g : ℕ) → length (slotsOfPart ordered ends seeds g) ≡ length (partOf ordered ends g)
-  unfolding slotsOfPart
-  slotsOfPart-length g = groupSlots-length (partOf ordered ends g) (getD seeds g 0) _
-
 module _ {groups : ℕ} {ordered ends : List ℕ} (p : Parts groups ordered ends) (seeds : List ℕ) where
   -- The slots of the first groups are as many as their tags.
   pub slots-length : (g : ℕ) → g ≤ groups → length (allSlots ordered ends seeds g) ≡ partStart ends g
-  unfolding partStart
+  unfolding partStart slotsOfPart
   slots-length zero le = ap length (slots-none ordered ends seeds)
   slots-length (suc g) le =
       rw (slots-more ordered ends seeds g, length-append)
       (omega (
         arith,
         slots-length g (omega arith),
-        slotsOfPart-length ordered ends seeds g,
+        groupSlots-length (partOf ordered ends g) (getD seeds g 0) (taken (partOf ordered ends g) (getD seeds g 0)),
         part-length p g (omega arith),
         p .follow g (omega arith),
       ))

@@ -13,6 +13,10 @@ use Rattle.bits.specs.Bit.{bitAt, setBit}
 set-half : (w p : ℕ) → (setBit (w / 2) p * 2 + w % 2) / 2 ≡ setBit (w / 2) p
 set-half w p = omega arith
 
+-- The same of a word whose lowest bit is set.
+set-rest : (w : ℕ) → (w / 2 * 2 + 1) / 2 ≡ w / 2
+set-rest w = omega arith
+
 -- A bit is 0 or 1.
 pub bit-below : (w p : ℕ) → bitAt w p < 2
 unfolding bitAt
@@ -35,7 +39,7 @@ bit-same w (suc p) = rw (set-half w p) (bit-same (w / 2) p)
 pub bit-other : (w p q : ℕ) → (q ≡ p → ⊥) → bitAt (setBit w p) q ≡ bitAt w q
 unfolding bitAt setBit
 bit-other w zero zero different = absurd (different refl)
-bit-other w zero (suc q) different = let e : (w / 2 * 2 + 1) / 2 ≡ w / 2 = omega arith in rw e
+bit-other w zero (suc q) different = rw (set-rest w)
 bit-other w (suc p) zero different = omega arith
 bit-other w (suc p) (suc q) different = rw (set-half w p) (bit-other (w / 2) p q (λ e. different (ap suc e)))
 
@@ -43,21 +47,14 @@ bit-other w (suc p) (suc q) different = rw (set-half w p) (bit-other (w / 2) p q
 pub setBit-comm : (w p q : ℕ) → setBit (setBit w p) q ≡ setBit (setBit w q) p
 unfolding setBit
 setBit-comm w zero zero = refl
-setBit-comm w zero (suc q) =
-    let e : (w / 2 * 2 + 1) / 2 ≡ w / 2 = omega arith in
-    rw e (omega arith)
-setBit-comm w (suc p) zero =
-    let e : (w / 2 * 2 + 1) / 2 ≡ w / 2 = omega arith in
-    rw e (omega arith)
-setBit-comm w (suc p) (suc q) =
-    rw (set-half w p, set-half w q, setBit-comm (w / 2) p q) (omega arith)
+setBit-comm w zero (suc q) = rw (set-rest w) (omega arith)
+setBit-comm w (suc p) zero = rw (set-rest w) (omega arith)
+setBit-comm w (suc p) (suc q) = rw (set-half w p, set-half w q, setBit-comm (w / 2) p q) (omega arith)
 
 -- Setting a bit adds a one exactly where the bit was 0.
 pub setBit-ones : (w p : ℕ) → ones (setBit w p) + bitAt w p ≡ ones w + 1
 unfolding bitAt setBit
-setBit-ones w zero =
-    let e : (w / 2 * 2 + 1) / 2 ≡ w / 2 = omega arith in
-    omega (arith, ones-step w, rw e at (ones-step (w / 2 * 2 + 1)))
+setBit-ones w zero = omega (arith, ones-step w, rw (set-rest w) at (ones-step (w / 2 * 2 + 1)))
 setBit-ones w (suc p) =
     let step = ones-step (setBit (w / 2) p * 2 + w % 2) in
     omega (arith, ones-step w, rw (set-half w p) at step, setBit-ones (w / 2) p)
@@ -80,10 +77,9 @@ setBit-or w (suc p) =
 pub or-setBit : (w v p : ℕ) → bitOr (setBit w p) v ≡ setBit (bitOr w v) p
 unfolding setBit
 or-setBit w v zero =
-    let one : (w / 2 * 2 + 1) / 2 ≡ w / 2 = omega arith in
     let half : (bitOr (w / 2) (v / 2) * 2 + max (w % 2) (v % 2)) / 2 ≡ bitOr (w / 2) (v / 2) = omega arith in
     let odd : max ((w / 2 * 2 + 1) % 2) (v % 2) ≡ 1 = omega arith in
-    or-step (w / 2 * 2 + 1) v ∙ rw (one, odd, or-step w v, half)
+    or-step (w / 2 * 2 + 1) v ∙ rw (set-rest w, odd, or-step w v, half)
 or-setBit w v (suc p) =
     let half : (bitOr (w / 2) (v / 2) * 2 + max (w % 2) (v % 2)) / 2 ≡ bitOr (w / 2) (v / 2) = omega arith in
     let low : (bitOr (w / 2) (v / 2) * 2 + max (w % 2) (v % 2)) % 2 ≡ max (w % 2) (v % 2) = omega arith in

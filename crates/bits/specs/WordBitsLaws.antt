@@ -1,19 +1,21 @@
 -- The laws of a word's choices: how they are read, toggled and set, and that they are those of `choicesOf`. Assumes nothing.
 use Prim.Native.Nat.{ℕ, zero, suc, _+_, _*_, _-_, _/_, _%_, _^_, _<_}
-use mathlib.Core.Path.{_≡_, refl, _∙_, ap}
-use mathlib.Core.Bool.{Bool, true, false, not}
+use mathlib.Core.Path.{_≡_, refl, sym, _∙_, ap}
+use mathlib.Core.Bool.{Bool, true, false}
+use mathlib.Core.List.{List}
 use native.Mathlib.Nat.{pow-suc, pow-succ', div-div-eq-div-mul}
 use native.Mathlib.Numerals.{add-one}
 use native.Mathlib.Omega.{arith}
 use lib.Bits.{bitXor, xor-step, xor-zero-r, xor-lt, differ}
-use lib.Dec.{eqb}
+use lib.ListN.{length}
 use lib.Pow.{pow-lt}
-use Rattle.bits.specs.Bit.{bitAt, setBit}
+use Rattle.bits.specs.Bit.{bitAt}
 use Rattle.bits.specs.BitLaws.{bit-below, bit-same, bit-other, setBit-below}
-use Rattle.filling.specs.Word.{choiceNumber, choicesOf}
-use Rattle.filling.specs.Weight.{byIndex}
+use Rattle.filling.specs.Word.{choiceNumber, wordOf, choicesOf}
+use Rattle.filling.specs.WordLaws.{number-choice, other-number, word-choices}
+use Rattle.filling.specs.Separate.{byIndex}
 use Rattle.filling.specs.Insertion.{Toggled}
-use Rattle.bits.specs.WordBits.{choiceIn, toggleBit}
+use Rattle.bits.specs.WordBits.{choiceIn, toggleBit, withChoice}
 
 -- A bit is the lowest bit of the word shifted.
 bit-shifted : (w p : ℕ) → w / 2 ^ p % 2 ≡ bitAt w p
@@ -21,17 +23,10 @@ unfolding bitAt
 bit-shifted w zero = omega arith
 bit-shifted w (suc p) = rw (pow-succ' 2 p, ← div-div-eq-div-mul w 2 (2 ^ p)) (bit-shifted (w / 2) p)
 
--- A number below 2 is that of its choice.
-number-choice : (x : ℕ) → x < 2 → x ≡ choiceNumber (eqb x 1)
-unfolding choiceNumber
-number-choice zero lt = refl
-number-choice (suc zero) lt = refl
-number-choice (suc (suc x)) lt = absurd (omega arith)
-
 -- The word shifted by i is odd exactly where key i has choice 1.
 pub choice-shifted : (w i : ℕ) → w / 2 ^ i % 2 ≡ choiceNumber (choiceIn w i)
 unfolding choiceIn
-choice-shifted w i = bit-shifted w i ∙ number-choice (bitAt w i) (bit-below w i)
+choice-shifted w i = bit-shifted w i ∙ sym (number-choice (bitAt w i) (bit-below w i))
 
 -- A choice's number is 1 exactly for choice 1.
 pub choiceNumber-one : (c : Bool) → choiceNumber c ≡ 1 → c ≡ true
@@ -44,20 +39,16 @@ unfolding choiceNumber
 choiceNumber-zero false n = refl
 choiceNumber-zero true n = absurd (n refl)
 
--- Choices with one number are one.
-pub choiceNumber-same : (c d : Bool) → choiceNumber c ≡ choiceNumber d → c ≡ d
-unfolding choiceNumber
-choiceNumber-same false false e = refl
-choiceNumber-same false true e = absurd (omega arith)
-choiceNumber-same true false e = absurd (omega arith)
-choiceNumber-same true true e = refl
-
 -- The choices of a word by index are its choices as a sequence.
 pub choicesOf-at : (n w i : ℕ) → i < n → choiceIn w i ≡ byIndex (choicesOf n w) i
 unfolding choiceIn choicesOf bitAt
 choicesOf-at zero w i lt = absurd (omega arith)
 choicesOf-at (suc n) w zero lt = refl
 choicesOf-at (suc n) w (suc i) lt = choicesOf-at n (w / 2) i (omega arith)
+
+-- The choice that a sequence's word has for key i is the choice with index i.
+pub word-choice : (cs : List Bool) (i : ℕ) → i < length cs → choiceIn (wordOf cs) i ≡ byIndex cs i
+word-choice cs i lt = choicesOf-at (length cs) (wordOf cs) i lt ∙ rw (word-choices cs)
 
 -- The other bits of a word whose bit p + 1 is toggled.
 toggle-half : (w p : ℕ) → (toggleBit (w / 2) p * 2 + w % 2) / 2 ≡ toggleBit (w / 2) p
@@ -100,41 +91,38 @@ toggle-xor w (suc p) =
 pub toggle-below : (k w p : ℕ) → w < 2 ^ k → p < k → toggleBit w p < 2 ^ k
 toggle-below k w p below lt = rw (← toggle-xor w p) (xor-lt k w (2 ^ p) below (pow-lt lt))
 
-other-bit : (x : ℕ) → x < 2 → eqb (1 - x) 1 ≡ not (eqb x 1)
-other-bit zero lt = refl
-other-bit (suc zero) lt = refl
-other-bit (suc (suc x)) lt = absurd (omega arith)
-
 -- The choices of a word with a bit toggled are its choices with that key's toggled.
 pub toggle-toggled : (w o : ℕ) → Toggled (choiceIn w) (choiceIn (toggleBit w o)) o
 unfolding choiceIn
 toggle-toggled w o = record {
-  here = rw (toggle-same w o) (other-bit (bitAt w o) (bit-below w o));
+  here = rw (toggle-same w o) (other-number (bitAt w o) (bit-below w o));
   others = λ i n. rw (toggle-other w o i n);
 }
 
--- A word of k bits has choice 0 for key k,
+-- A word of k bits has bit k clear, and k + 1 bits too.
 bit-past : (k w : ℕ) → w < 2 ^ k → bitAt w k ≡ 0
 unfolding bitAt
 bit-past zero w lt = omega arith
 bit-past (suc k) w lt = bit-past k (w / 2) (omega (arith, pow-suc 2 k))
 
-pub choice-past : (k w : ℕ) → w < 2 ^ k → choiceIn w k ≡ false
-unfolding choiceIn
-choice-past k w lt = rw (bit-past k w lt)
-
--- and with bit k set choice 1 for it, and the same choices below.
-pub choice-set : (w k : ℕ) → choiceIn (setBit w k) k ≡ true
-unfolding choiceIn
-choice-set w k = rw (bit-same w k)
-
-pub choice-kept : (w k i : ℕ) → i < k → choiceIn w i ≡ choiceIn (setBit w k) i
-unfolding choiceIn
-choice-kept w k i lt = rw (bit-other w k i (λ e. omega arith))
-
--- Both are words of one bit more.
-pub word-grown : (k w : ℕ) → w < 2 ^ k → w < 2 ^ (k + 1)
+word-grown : (k w : ℕ) → w < 2 ^ k → w < 2 ^ (k + 1)
 word-grown k w lt = rw (add-one k) (omega (arith, pow-suc 2 k))
 
-pub set-grown : (k w : ℕ) → w < 2 ^ k → setBit w k < 2 ^ (k + 1)
-set-grown k w lt = setBit-below (k + 1) w k (word-grown k w lt) (omega arith)
+module _ (k w : ℕ) (below : w < 2 ^ k) where
+  -- With a choice of key k it has this choice for key k,
+  pub choice-own : (c : Bool) → choiceIn (withChoice w k c) k ≡ c
+  unfolding choiceIn withChoice
+  choice-own false = rw (bit-past k w below)
+  choice-own true = rw (bit-same w k)
+
+  -- the same choices below,
+  pub choice-kept : (c : Bool) (i : ℕ) → i < k → choiceIn w i ≡ choiceIn (withChoice w k c) i
+  unfolding choiceIn withChoice
+  choice-kept false i lt = refl
+  choice-kept true i lt = rw (bit-other w k i (λ e. omega arith))
+
+  -- and k + 1 bits.
+  pub choice-grown : (c : Bool) → withChoice w k c < 2 ^ (k + 1)
+  unfolding withChoice
+  choice-grown false = word-grown k w below
+  choice-grown true = setBit-below (k + 1) w k (word-grown k w below) (omega arith)

@@ -12,10 +12,10 @@
 -- refutes every cs. Assumes nothing.
 use Prim.Native.Nat.{ℕ, zero, suc, _+_, _-_, _≤_, _<_}
 use mathlib.Core.Path.{_≡_, refl, sym, _∙_, ap}
-use mathlib.Core.Logic.{_⊎_, inl, inr, _≢_, ⊎-elim}
+use mathlib.Core.Logic.{_≢_}
 use mathlib.Core.Bool.{Bool, true, false, false≢true}
 use mathlib.Core.List.{List}
-use native.Mathlib.Nat.{eq-or-lt-of-le}
+use native.Mathlib.Decide.{ℕ-discrete}
 use native.Mathlib.Omega.{arith}
 use lib.Dec.{eqb, ltb}
 use lib.ListN.{length, getD, set, take, replicate, length-set, length-map}
@@ -23,68 +23,12 @@ use lib.ListN.{length-replicate, getD-replicate, List·getD-map, List·getD-eq-d
 use lib.Seq.{getD-set-same, getD-set-other, set-out, getD-take, length-take-le}
 use borrow.Author.Tests.{eqb-true, eqb-false, eq-eqb, ltb-true, ltb-false}
 use Rattle.filling.specs.Filling.{Key, placeBy, Fills, EachCandidate}
-use Rattle.filling.specs.FillingLaws.{placeAt, fills-apart, apart-fills}
-use Rattle.filling.specs.Eviction.{State, allowance, placeUnder, goal, occupant, start, seatKey, evictKey, Reached, started, seats, evicts, GivesUp, sequenceOf}
-
--- Two numbers are equal or not.
-equal-or-not : (i j : ℕ) → (i ≡ j) ⊎ (i ≢ j)
-equal-or-not i j = go (eqb i j) refl
-  where
-    go : (b : Bool) → eqb i j ≡ b → (i ≡ j) ⊎ (i ≢ j)
-    go true e = inl (eqb-true i j e)
-    go false e = inr (eqb-false i j e)
-
--- A number below suc m is m or below it.
-last-or-below : (i m : ℕ) → i < suc m → (i ≡ m) ⊎ (i < m)
-last-or-below i m lt = eq-or-lt-of-le (omega arith)
-
--- How many numbers below m pass a test.
-abbrev pub oneIf : Bool → ℕ
-oneIf false = 0
-oneIf true = 1
-
-unfoldable pub count : (ℕ → Bool) → ℕ → ℕ
-count test zero = 0
-count test (suc m) = oneIf (test m) + count test m
-
-oneIf-most : (b : Bool) → oneIf b ≤ 1
-oneIf-most false = omega arith
-oneIf-most true = omega arith
-
--- At most all do.
-count-most : (test : ℕ → Bool) (m : ℕ) → count test m ≤ m
-unfolding count
-count-most test zero = omega arith
-count-most test (suc m) = omega (arith, oneIf-most (test m), count-most test m)
-
--- One that does is counted.
-count-has : (test : ℕ → Bool) (m i : ℕ) → i < m → oneIf (test i) ≤ count test m
-unfolding count
-count-has test zero i lt = absurd (omega arith)
-count-has test (suc m) i lt = go (last-or-below i m lt) (count-has test m i)
-  where
-    go : (i ≡ m) ⊎ (i < m) → (i < m → oneIf (test i) ≤ count test m) → oneIf (test i) ≤ oneIf (test m) + count test m
-    go (inl same) rest = rw same (omega arith)
-    go (inr lt) rest = omega (arith, rest lt)
-
--- Tests that agree count the same.
-count-same : (test test′ : ℕ → Bool) (m : ℕ) → ((i : ℕ) → i < m → test i ≡ test′ i) → count test m ≡ count test′ m
-unfolding count
-count-same test test′ zero h = refl
-count-same test test′ (suc m) h =
-    omega (arith, ap oneIf (h m (omega arith)), count-same test test′ m (λ i lt. h i (omega arith)))
-
--- Tests that agree but at one number.
-count-change : (test test′ : ℕ → Bool) (m o : ℕ) → o < m → ((i : ℕ) → i ≢ o → test i ≡ test′ i)
-    → count test m + oneIf (test′ o) ≡ count test′ m + oneIf (test o)
-unfolding count
-count-change test test′ zero o lt h = absurd (omega arith)
-count-change test test′ (suc m) o lt h = go (last-or-below o m lt) (λ lt. count-change test test′ m o lt h)
-  where
-    go : (o ≡ m) ⊎ (o < m) → (o < m → count test m + oneIf (test′ o) ≡ count test′ m + oneIf (test o))
-        → oneIf (test m) + count test m + oneIf (test′ o) ≡ oneIf (test′ m) + count test′ m + oneIf (test o)
-    go (inl same) rest = rw same (omega (arith, count-same test test′ m (λ i lt. h i (λ e. omega arith))))
-    go (inr lt) rest = omega (arith, ap oneIf (h m (λ e. omega arith)), rest lt)
+use Rattle.filling.specs.FillingLaws.{fills-apart, apart-fills}
+use Rattle.filling.specs.Separate.{byIndex, keyPlace, Apart}
+use Rattle.filling.specs.Weight.{choiceWeight, total, count}
+use Rattle.filling.specs.WeightLaws.{count-most, total-has, total-change}
+use Rattle.filling.specs.Eviction.{State, allowance, placeUnder, goal, occupant, start, seatKey, evictKey, Reached, started, seats}
+use Rattle.filling.specs.Eviction.{evicts, GivesUp, sequenceOf}
 
 -- The potential of m keys, a of which agree, the moving key among these or not.
 abbrev pub potentialOf : Bool → ℕ → ℕ → ℕ
@@ -92,13 +36,15 @@ potentialOf true m a = m - a
 potentialOf false m a = m + a
 
 -- When a key enters with k seated it is within the allowance: a counts the moving key only where it agrees.
-potentialOf-enter : (b : Bool) (k a : ℕ) → a ≤ k → potentialOf b (suc k) (oneIf b + a) ≤ allowance k
+potentialOf-enter : (b : Bool) (k a : ℕ) → a ≤ k → potentialOf b (suc k) (a + choiceWeight b 1) ≤ allowance k
+unfolding choiceWeight
 potentialOf-enter true k a most = omega arith
 potentialOf-enter false k a most = omega arith
 
 -- An eviction lowers it. h: the moving key agrees; o: its occupant does; o′: the occupant does by its other choice.
-potentialOf-less : (h o o′ : Bool) (m a a′ : ℕ) → a + oneIf o′ ≡ a′ + oneIf o → oneIf o ≤ a → a′ ≤ m → 0 < m
-    → (h ≡ true → o ≡ true → ⊥) → (o ≡ false → o′ ≡ true) → potentialOf o′ m a′ < potentialOf h m a
+potentialOf-less : (h o o′ : Bool) (m a a′ : ℕ) → a + choiceWeight o′ 1 ≡ a′ + choiceWeight o 1 → choiceWeight o 1 ≤ a → a′ ≤ m
+    → 0 < m → (h ≡ true → o ≡ true → ⊥) → (o ≡ false → o′ ≡ true) → potentialOf o′ m a′ < potentialOf h m a
+unfolding choiceWeight
 potentialOf-less true true o′ m a a′ e has most some apart turned = absurd (apart refl refl)
 potentialOf-less h false false m a a′ e has most some apart turned = absurd (false≢true (turned refl))
 potentialOf-less true false true m a a′ e has most some apart turned = omega arith
@@ -106,13 +52,9 @@ potentialOf-less false false true m a a′ e has most some apart turned = omega 
 potentialOf-less false true true m a a′ e has most some apart turned = omega arith
 potentialOf-less false true false m a a′ e has most some apart turned = omega arith
 
--- The first m keys take different places under a sequence.
-abbrev pub FirstApart : List Key → ℕ → List Bool → Type 0
-FirstApart keys m cs = (i j : ℕ) → i < m → j < m → placeAt keys cs i ≡ placeAt keys cs j → i ≡ j
-
 -- Does key i agree with a sequence: is its place by its choice its place under the sequence?
 abbrev pub agrees : List Key → List Bool → List ℕ → ℕ → Bool
-agrees keys cs choices i = eqb (placeUnder keys choices i) (placeAt keys cs i)
+agrees keys cs choices i = eqb (placeUnder keys choices i) (keyPlace keys i (byIndex cs i))
 
 -- The potential of a state against a sequence.
 unfoldable pub potential : List Key → List Bool → State → ℕ
@@ -122,7 +64,7 @@ potential keys cs s =
 
 -- The bound at which a key enters, whatever its choice, against any sequence.
 potential-enter : (keys : List Key) (cs : List Bool) (s : State) → s .moving ≡ s .seated → potential keys cs s ≤ allowance (s .seated)
-unfolding potential count
+unfolding potential total
 potential-enter keys cs s e =
     let test = agrees keys cs (s .choices) in
     rw e (potentialOf-enter (test (s .seated)) (s .seated) (count test (s .seated)) (count-most test (s .seated)))
@@ -146,7 +88,7 @@ record Invariant (keys : List Key) (s : State) : Type 0 where
   room : EachCandidate (λ x. x < length (s .occupants)) keys
   cells : length keys ≤ length (s .choices)
   -- the potential against any sequence is no more than the evictions that are left
-  enough : (cs : List Bool) → FirstApart keys (suc (s .seated)) cs → potential keys cs s ≤ s .left
+  enough : (cs : List Bool) → Apart keys (suc (s .seated)) cs → potential keys cs s ≤ s .left
 
 -- Every cell of a list of zeros is 0, and past its end 0 is read too.
 pub replicate-zero : (m i : ℕ) → _≡_ {A = ℕ} (getD (replicate m 0) i 0) 0
@@ -163,12 +105,12 @@ set-place keys choices o i c other = rw (getD-set-other choices o i c 0 other)
 
 -- and all choices are 0 or 1, if this one is.
 set-two : (choices : List ℕ) (o i c : ℕ) → c < 2 → getD choices i 0 < 2 → getD (set choices o c) i 0 < 2
-set-two choices o i c two was = go (equal-or-not i o) (ltb o (length choices)) refl
+set-two choices o i c two was = go (ℕ-discrete i o) (ltb o (length choices)) refl
   where
-    go : (i ≡ o) ⊎ (i ≢ o) → (b : Bool) → ltb o (length choices) ≡ b → getD (set choices o c) i 0 < 2
-    go (inl same) true e = rw (same, getD-set-same choices o c 0 (ltb-true o (length choices) e)) two
-    go (inl same) false e = rw (set-out choices o c (ltb-false o (length choices) e)) was
-    go (inr other) b e = rw (getD-set-other choices o i c 0 other) was
+    go : Dec (i ≡ o) → (b : Bool) → ltb o (length choices) ≡ b → getD (set choices o c) i 0 < 2
+    go (yes same) true e = rw (same, getD-set-same choices o c 0 (ltb-true o (length choices) e)) two
+    go (yes same) false e = rw (set-out choices o c (ltb-false o (length choices) e)) was
+    go (no other) b e = rw (getD-set-other choices o i c 0 other) was
 
 invariant-start : (keys : List Key) (places cells : ℕ) → EachCandidate (λ x. x < places) keys → length keys ≤ cells
     → Invariant keys (start places cells)
@@ -212,28 +154,28 @@ module _ {keys : List Key} {s : State} (inv : Invariant keys s) (more : s .seate
   next-sits : (t : State) → Next t → (i : ℕ) → i ≤ t .seated → i ≢ t .moving
       → getD (t .occupants) (placeUnder keys (t .choices) i) 0 ≡ i + 1
   unfolding goal occupant
-  next-sits t next i le other = rw (next .occupants, next .kept i other) (go (equal-or-not i (s .moving)))
+  next-sits t next i le other = rw (next .occupants, next .kept i other) (go (ℕ-discrete i (s .moving)))
     where
-      go : (i ≡ s .moving) ⊎ (i ≢ s .moving) → getD taken (placeUnder keys (s .choices) i) 0 ≡ i + 1
-      go (inl same) = rw same taken-here
-      go (inr still) =
+      go : Dec (i ≡ s .moving) → getD taken (placeUnder keys (s .choices) i) 0 ≡ i + 1
+      go (yes same) = rw same taken-here
+      go (no still) =
           let was = next .into i le other in
           let at = inv .sits i (was .0) still in
           taken-there (placeUnder keys (s .choices) i) (λ e. was .1 (ap (λ v. getD (s .occupants) v 0) (sym e) ∙ at)) ∙ at
 
   next-who : (t : State) → Next t → (v i : ℕ) → getD (t .occupants) v 0 ≡ i + 1 → Has keys t i v
   unfolding goal occupant
-  next-who t next v i e = go (equal-or-not v (goal keys s)) (rw (next .occupants) at e)
+  next-who t next v i e = go (ℕ-discrete v (goal keys s)) (rw (next .occupants) at e)
     where
       at : v ≡ placeUnder keys (s .choices) i → (i ≤ t .seated) × (i ≢ t .moving) → Has keys t i v
       at place q = record { upto = q .0; still = q .1; place = place ∙ sym (next .kept i (q .1)) }
 
-      go : (v ≡ goal keys s) ⊎ (v ≢ goal keys s) → getD taken v 0 ≡ i + 1 → Has keys t i v
-      go (inl same) e =
+      go : Dec (v ≡ goal keys s) → getD taken v 0 ≡ i + 1 → Has keys t i v
+      go (yes same) e =
           let q : i ≡ s .moving = omega (arith, taken-here, (rw same at e)) in
           at (same ∙ ap (placeUnder keys (s .choices)) (sym q))
           (next .from i (omega (arith, inv .among)) (λ z. inv .who (goal keys s) i z .still q))
-      go (inr other) e =
+      go (no other) e =
           let has = inv .who v i (sym (taken-there v other) ∙ e) in
           at (has .place)
           (next .from i (has .upto) (λ z. other (has .place ∙ sym (inv .who (goal keys s) i z .place))))
@@ -290,12 +232,12 @@ module _ {keys : List Key} {s : State} (inv : Invariant keys s) (more : s .seate
   turned-place i other = set-place keys (s .choices) evicted i (1 - getD (s .choices) evicted 0) other
 
   -- Where the moving key agrees with a sequence its occupant does not: they would take one place,
-  evicted-differs : (cs : List Bool) → FirstApart keys (suc (s .seated)) cs
+  evicted-differs : (cs : List Bool) → Apart keys (suc (s .seated)) cs
       → agrees keys cs (s .choices) (s .moving) ≡ true → agrees keys cs (s .choices) evicted ≡ true → ⊥
   unfolding goal
   evicted-differs cs apart a b =
-      let p = eqb-true (placeUnder keys (s .choices) (s .moving)) (placeAt keys cs (s .moving)) a in
-      let q = eqb-true (placeUnder keys (s .choices) evicted) (placeAt keys cs evicted) b in
+      let p = eqb-true (placeUnder keys (s .choices) (s .moving)) (keyPlace keys (s .moving) (byIndex cs (s .moving))) a in
+      let q = eqb-true (placeUnder keys (s .choices) evicted) (keyPlace keys evicted (byIndex cs evicted)) b in
       let inside : evicted < suc (s .seated) = omega (arith, evicted-has .upto) in
       evicted-has .still (sym (apart (s .moving) evicted (omega (arith, inv .among)) inside (sym p ∙ evicted-has .place ∙ q)))
 
@@ -307,17 +249,18 @@ module _ {keys : List Key} {s : State} (inv : Invariant keys s) (more : s .seate
       (other-choice (getD keys evicted (0, 0)) (getD (s .choices) evicted 0) (getD cs evicted false) (inv .two evicted) e)
 
   -- Every eviction lowers the potential.
-  evict-lowers : (cs : List Bool) → FirstApart keys (suc (s .seated)) cs → potential keys cs (evictKey keys s) < potential keys cs s
+  evict-lowers : (cs : List Bool) → Apart keys (suc (s .seated)) cs → potential keys cs (evictKey keys s) < potential keys cs s
   unfolding potential evictKey
   evict-lowers cs apart =
       let m = suc (s .seated) in
       let test = agrees keys cs (s .choices) in
       let test′ = agrees keys cs turned in
       let inside : evicted < m = omega (arith, evicted-has .upto) in
-      let change : (i : ℕ) → i ≢ evicted → test i ≡ test′ i = λ i other. ap (λ v. eqb v (placeAt keys cs i)) (sym (turned-place i other)) in
+      let change : (i : ℕ) → i ≢ evicted → test i ≡ test′ i =
+      λ i other. ap (λ v. eqb v (keyPlace keys i (byIndex cs i))) (sym (turned-place i other)) in
       potentialOf-less (test (s .moving)) (test evicted) (test′ evicted) m (count test m) (count test′ m)
-      (count-change test test′ m evicted inside change)
-      (count-has test m evicted inside) (count-most test′ m) (omega arith) (evicted-differs cs apart) (evicted-agrees cs)
+      (total-change (λ _. 1) test test′ evicted m inside change)
+      (total-has (λ _. 1) test m evicted inside) (count-most test′ m) (omega arith) (evicted-differs cs apart) (evicted-agrees cs)
 
   -- The place was taken, and an eviction left.
   invariant-evict : 0 < s .left → Invariant keys (evictKey keys s)
@@ -350,11 +293,11 @@ reached-invariant (evicts r more full some) = invariant-evict (reached-invariant
 
 module _ {keys : List Key} {s : State} (r : Reached keys s) where
   -- The potential is at most what is left of the allowance, against every sequence that fills the keys so far,
-  pub potential-left : (cs : List Bool) → FirstApart keys (suc (s .seated)) cs → potential keys cs s ≤ s .left
+  pub potential-left : (cs : List Bool) → Apart keys (suc (s .seated)) cs → potential keys cs s ≤ s .left
   potential-left cs apart = reached-invariant r .enough cs apart
 
   -- and every eviction lowers it.
-  pub eviction-lowers : s .seated < length keys → (occupant keys s ≡ 0 → ⊥) → (cs : List Bool) → FirstApart keys (suc (s .seated)) cs
+  pub eviction-lowers : s .seated < length keys → (occupant keys s ≡ 0 → ⊥) → (cs : List Bool) → Apart keys (suc (s .seated)) cs
       → potential keys cs (evictKey keys s) < potential keys cs s
   eviction-lowers more full cs apart = evict-lowers (reached-invariant r) more full cs apart
 
@@ -374,19 +317,17 @@ module _ {keys : List Key} {s : State} (r : Reached keys s) where
   pub reached-goal : s .seated < length keys → goal keys s < length (s .occupants)
   reached-goal more = goal-inside (reached-invariant r) more
 
--- COMPLETENESS: where the bounded chain gives up, no choice sequence takes the keys so far to different places,
-pub gives-up-apart : {keys : List Key} {s : State} → GivesUp keys s → (cs : List Bool) → FirstApart keys (suc (s .seated)) cs → ⊥
-gives-up-apart g cs apart =
-    omega (arith, eviction-lowers (g .reached) (g .unfinished) (g .taken) cs apart, potential-left (g .reached) cs apart, g .spent)
-
--- and so none fills.
+-- COMPLETENESS: where the bounded chain gives up, no choice sequence fills.
 pub gives-up-none : {keys : List Key} {s : State} → GivesUp keys s → (cs : List Bool) → Fills keys cs → ⊥
-gives-up-none {keys} g cs f =
-    gives-up-apart g cs (λ i j li lj e. fills-apart keys cs f i j (omega (arith, g .unfinished)) (omega (arith, g .unfinished)) e)
+gives-up-none {keys} {s} g cs f =
+    omega (arith, eviction-lowers (g .reached) (g .unfinished) (g .taken) cs apart, potential-left (g .reached) cs apart, g .spent)
+  where
+    apart : Apart keys (suc (s .seated)) cs
+    apart i j li lj e = fills-apart keys cs f i j (omega (arith, g .unfinished)) (omega (arith, g .unfinished)) e
 
 -- The choice with an index.
 sequenceOf-at : (keys : List Key) (s : State) (i : ℕ) → i < length keys
-    → getD (sequenceOf keys s) i false ≡ eqb (getD (s .choices) i 0) 1
+    → byIndex (sequenceOf keys s) i ≡ eqb (getD (s .choices) i 0) 1
 unfolding sequenceOf
 sequenceOf-at keys s i lt =
     List·getD-map (λ choice. eqb choice 1) (take (length keys) (s .choices)) i 0 ∙ rw (getD-take (length keys) (s .choices) i 0 lt)
@@ -402,47 +343,13 @@ seated-fills {keys} {s} r all = apart-fills keys (sequenceOf keys s) whole apart
     whole : length (sequenceOf keys s) ≡ length keys
     whole = length-map (take (length keys) (s .choices)) (λ choice. eqb choice 1) ∙ length-take-le (length keys) (s .choices) (inv .cells)
 
-    under : (i : ℕ) → i < length keys → placeAt keys (sequenceOf keys s) i ≡ placeUnder keys (s .choices) i
+    under : (i : ℕ) → i < length keys → keyPlace keys i (byIndex (sequenceOf keys s) i) ≡ placeUnder keys (s .choices) i
     under i lt = rw (sequenceOf-at keys s i lt)
 
     sits : (i : ℕ) → i < length keys → getD (s .occupants) (placeUnder keys (s .choices) i) 0 ≡ i + 1
     sits i lt = inv .sits i (omega arith) (λ e. omega (arith, inv .last all))
 
-    apart : (i j : ℕ) → i < length keys → j < length keys
-        → placeAt keys (sequenceOf keys s) i ≡ placeAt keys (sequenceOf keys s) j → i ≡ j
+    apart : Apart keys (length keys) (sequenceOf keys s)
     apart i j li lj e =
         let same = sym (under i li) ∙ e ∙ under j lj in
         omega (arith, sits i li, sits j lj, ap (λ v. getD (s .occupants) v 0) same)
-
--- Bounded cuckoo insertion ends, in one of these two ways.
-pub data Ended (keys : List Key) : Type 0 where
-  allSeated : (s : State) → Reached keys s → s .seated ≡ length keys → Ended keys
-  gaveUp : (s : State) → GivesUp keys s → Ended keys
-
--- It does so from a state with d + 1 keys unseated and l evictions left, if it does from every state with d unseated.
-ends-chain : (keys : List Key) (d : ℕ) → ((t : State) → Reached keys t → t .seated + d ≡ length keys → Ended keys)
-    → (l : ℕ) (s : State) → Reached keys s → s .seated + suc d ≡ length keys → s .left ≡ l → Ended keys
-unfolding seatKey evictKey
-ends-chain keys d rest zero s r e out =
-    let more : s .seated < length keys = omega arith in
-    ⊎-elim
-    (λ free. rest (seatKey keys 0 s) (seats 0 (omega arith) r more free) (omega arith))
-    (λ full. gaveUp s (record { reached = r; unfinished = more; taken = full; spent = out }))
-    (equal-or-not (occupant keys s) 0)
-ends-chain keys d rest (suc l) s r e some =
-    let more : s .seated < length keys = omega arith in
-    ⊎-elim
-    (λ free. rest (seatKey keys 0 s) (seats 0 (omega arith) r more free) (omega arith))
-    (λ full. ends-chain keys d rest l (evictKey keys s) (evicts r more full (omega arith)) e (omega arith))
-    (equal-or-not (occupant keys s) 0)
-
-ends-from : (keys : List Key) (d : ℕ) (s : State) → Reached keys s → s .seated + d ≡ length keys → Ended keys
-ends-from keys zero s r e = allSeated s r (omega arith)
-ends-from keys (suc d) s r e = ends-chain keys d (ends-from keys d) (s .left) s r e refl
-
--- DECISION: the insertion of any keys on any number of places ends, with all keys seated or by giving up; by the two theorems above
--- the first is so exactly where something fills.
-pub insertion-ends : (keys : List Key) (places : ℕ) → EachCandidate (λ x. x < places) keys → Ended keys
-unfolding start
-insertion-ends keys places below =
-    ends-from keys (length keys) (start places (length keys)) (started places (length keys) below (omega arith)) (omega arith)

@@ -7,15 +7,8 @@ use native.Mathlib.Omega.{arith}
 use lib.ListN.{length, getD}
 use Rattle.lists.specs.Occurs.{occurs}
 use Rattle.lists.specs.OccursLaws.{pigeonhole, occurs-getD, distinct-getD, getD-distinct, onto}
-use Rattle.filling.specs.Filling.{Key, placeBy, chosen, Fills, EachCandidate}
-
--- The place that the key with index i takes.
-abbrev pub placeAt : List Key → List Bool → ℕ → ℕ
-placeAt keys cs i = placeBy (getD cs i false) (getD keys i (0, 0))
-
--- Keys with different indices take different places.
-abbrev pub Apart : List Key → List Bool → Type 0
-Apart keys cs = (i j : ℕ) → i < length keys → j < length keys → placeAt keys cs i ≡ placeAt keys cs j → i ≡ j
+use Rattle.filling.specs.Filling.{Key, chosen, Fills, EachCandidate}
+use Rattle.filling.specs.Separate.{byIndex, keyPlace, Apart}
 
 -- One place is chosen for each key.
 pub chosen-length : (keys : List Key) (cs : List Bool) → length cs ≡ length keys → length (chosen keys cs) ≡ length keys
@@ -26,7 +19,7 @@ chosen-length (key ∷ keys) (c ∷ cs) l = ap suc (chosen-length keys cs (omega
 
 -- The chosen place with index i is the one that choice i takes of key i.
 pub chosen-at : (keys : List Key) (cs : List Bool) (i : ℕ) → length cs ≡ length keys → i < length keys
-    → getD (chosen keys cs) i 0 ≡ placeAt keys cs i
+    → getD (chosen keys cs) i 0 ≡ keyPlace keys i (byIndex cs i)
 unfolding chosen
 chosen-at [] cs i l lt = absurd (omega arith)
 chosen-at (key ∷ keys) [] i l lt = absurd (omega arith)
@@ -42,14 +35,14 @@ chosen-candidate P keys cs l each x t =
     rw (← at .value, chosen-at keys cs (at .index) l lt) (each (at .index) lt (getD cs (at .index) false))
 
 -- Under a sequence that fills, no two keys take one place.
-pub fills-apart : (keys : List Key) (cs : List Bool) → Fills keys cs → Apart keys cs
+pub fills-apart : (keys : List Key) (cs : List Bool) → Fills keys cs → Apart keys (length keys) cs
 fills-apart keys cs f i j li lj e =
     let l = chosen-length keys cs (f .whole) in
     let same = chosen-at keys cs i (f .whole) li ∙ e ∙ sym (chosen-at keys cs j (f .whole) lj) in
     distinct-getD (chosen keys cs) (f .apart) i j (omega arith) (omega arith) same
 
 -- A sequence with a choice for each key under which no two keys take one place fills.
-pub apart-fills : (keys : List Key) (cs : List Bool) → length cs ≡ length keys → Apart keys cs → Fills keys cs
+pub apart-fills : (keys : List Key) (cs : List Bool) → length cs ≡ length keys → Apart keys (length keys) cs → Fills keys cs
 apart-fills keys cs l apart = record {
   whole = l;
   apart = getD-distinct (chosen keys cs) (λ i j li lj e.

@@ -4,11 +4,12 @@ use Prim.Native.Nat.{ℕ, suc, _≤_, _<_}
 use mathlib.Core.Path.{_≡_}
 use mathlib.Core.Bool.{Bool, not, xor}
 use mathlib.Core.Logic.{_⊎_}
-use Rattle.filling.specs.Weight.{total}
+use Rattle.filling.specs.Separate.{Separate}
+use Rattle.filling.specs.Weight.{count, total}
 
 -- The number of the first n keys for which two sequences have different choices. (The field's term: Hamming distance.)
 unfoldable pub distance : (ℕ → Bool) → (ℕ → Bool) → ℕ → ℕ
-distance c d n = total (λ _. 1) (λ i. xor (c i) (d i)) n
+distance c d n = count (λ i. xor (c i) (d i)) n
 
 -- d is c with the choice of key o toggled.
 pub record Toggled (c d : ℕ → Bool) (o : ℕ) : Type 0 where
@@ -20,10 +21,6 @@ abbrev pub Moved : ℕ → (ℕ → Bool) → (ℕ → Bool) → ℕ → Type 0
 Moved k before c i = (i ≡ k) ⊎ (c i ≡ before i → ⊥)
 
 module _ (place : ℕ → Bool → ℕ) where
-  -- No two of the first n keys take one place.
-  abbrev pub Separate : ℕ → (ℕ → Bool) → Type 0
-  Separate n c = (i j : ℕ) → i < n → j < n → place i (c i) ≡ place j (c j) → i ≡ j
-
   -- No two of the keys 0 to k take one place, the displaced key left out.
   abbrev pub SeparateBut : ℕ → (ℕ → Bool) → ℕ → Type 0
   SeparateBut k c displaced =
@@ -31,17 +28,17 @@ module _ (place : ℕ → Bool → ℕ) where
 
   -- c separates the first n keys, and nothing that does is lighter.
   pub record Lightest (weight : ℕ → ℕ) (n : ℕ) (c : ℕ → Bool) : Type 0 where
-    pub separate : Separate n c
-    pub lightest : (f : ℕ → Bool) → Separate n f → total weight c n ≤ total weight f n
+    pub separate : Separate place n c
+    pub lightest : (f : ℕ → Bool) → Separate place n f → total weight c n ≤ total weight f n
 
   -- The same for the keys 0 to k, among the sequences with a given choice of key k.
   pub record LightestWith (weight : ℕ → ℕ) (k : ℕ) (choice : Bool) (c : ℕ → Bool) : Type 0 where
-    pub separate : Separate (suc k) c
-    pub lightest : (f : ℕ → Bool) → Separate (suc k) f → f k ≡ choice → total weight c (suc k) ≤ total weight f (suc k)
+    pub separate : Separate place (suc k) c
+    pub lightest : (f : ℕ → Bool) → Separate place (suc k) f → f k ≡ choice → total weight c (suc k) ≤ total weight f (suc k)
 
   -- Nothing separates the keys 0 to k with a given choice of key k.
   abbrev pub NoneWith : ℕ → Bool → Type 0
-  NoneWith k choice = (f : ℕ → Bool) → Separate (suc k) f → f k ≡ choice → ⊥
+  NoneWith k choice = (f : ℕ → Bool) → Separate place (suc k) f → f k ≡ choice → ⊥
 
   -- o is the occupant: another one of the keys 0 to k that takes the place of the displaced key.
   pub record Occupies (c : ℕ → Bool) (k displaced o : ℕ) : Type 0 where
@@ -69,7 +66,7 @@ module _ (place : ℕ → Bool → ℕ) where
   pub record Insertion (k : ℕ) (before c : ℕ → Bool) (displaced left : ℕ) : Type 0 where
     pub upto : displaced ≤ k
     pub apart : SeparateBut k c displaced
-    pub agreement : (f : ℕ → Bool) → Separate (suc k) f → f k ≡ before k → Agreement f before c k displaced left
+    pub agreement : (f : ℕ → Bool) → Separate place (suc k) f → f k ≡ before k → Agreement f before c k displaced left
 
   -- A place that one of the keys below k had before.
   abbrev pub Taken : ℕ → (ℕ → Bool) → ℕ → Type 0

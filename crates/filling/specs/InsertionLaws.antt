@@ -8,9 +8,11 @@ use native.Mathlib.Decide.{ℕ-discrete}
 use native.Mathlib.Omega.{arith}
 use lib.Dec.{eqb}
 use borrow.Author.Tests.{eq-eqb, ne-eqb}
+use Rattle.filling.specs.Separate.{Separate}
 use Rattle.filling.specs.Weight.{choiceWeight, total}
-use Rattle.filling.specs.WeightLaws.{total-same, total-count, total-less}
-use Rattle.filling.specs.Insertion.{distance, Toggled, Moved, Separate, SeparateBut, Lightest, LightestWith, NoneWith, Occupies, Unoccupied, Agreement, Insertion, Taken, Walk}
+use Rattle.filling.specs.WeightLaws.{total-same, count-most, total-change}
+use Rattle.filling.specs.Insertion.{distance, Toggled, Moved, SeparateBut, Lightest, LightestWith, NoneWith, Occupies, Unoccupied}
+use Rattle.filling.specs.Insertion.{Agreement, Insertion, Taken, Walk}
 
 -- A choice that is not another is that other, toggled.
 other-choice : (a b : Bool) → (a ≡ b → ⊥) → not a ≡ b
@@ -42,36 +44,29 @@ xor-other true true n = absurd (n refl)
 -- A new key with its choice in common is at most at distance k.
 distance-start : (c d : ℕ → Bool) (k : ℕ) → c k ≡ d k → distance c d (suc k) ≤ k
 unfolding distance total choiceWeight
-distance-start c d k e = rw (xor-same (c k) (d k) e) (omega (arith, total-count (λ i. xor (c i) (d i)) k))
+distance-start c d k e = rw (xor-same (c k) (d k) e) (omega (arith, count-most (λ i. xor (c i) (d i)) k))
 
 -- A choice that is brought into agreement brings the sequences closer by 1.
 distance-closer : (c c′ d : ℕ → Bool) (o n : ℕ) → o < n → (c o ≡ d o → ⊥) → c′ o ≡ d o
     → ((i : ℕ) → (i ≡ o → ⊥) → c′ i ≡ c i) → distance c d n ≡ distance c′ d n + 1
-unfolding distance
+unfolding distance choiceWeight
 distance-closer c c′ d o n lt differs agrees others =
-    total-less (λ _. 1) (λ i. xor (c i) (d i)) (λ i. xor (c′ i) (d i)) o n lt
-    (xor-other (c o) (d o) differs) (xor-same (c′ o) (d o) agrees) (λ i m. ap (λ (b : Bool). xor b (d i)) (sym (others i m)))
+    let change =
+    total-change (λ _. 1) (λ i. xor (c i) (d i)) (λ i. xor (c′ i) (d i)) o n lt
+    (λ i m. ap (λ (b : Bool). xor b (d i)) (sym (others i m))) in
+    omega (arith, rw (xor-other (c o) (d o) differs, xor-same (c′ o) (d o) agrees) at change)
 
 -- The exchange: f's choice where the insertion left the choice as it was before, and that from before where it did not.
 exchanged : Bool → Bool → Bool → Bool
-exchanged false false f = f
-exchanged true true f = f
-exchanged false true f = true
-exchanged true false f = false
+exchanged c before f = cond (xor c before) before f
 
 exchanged-same : (c before f : Bool) → c ≡ before → exchanged c before f ≡ f
 unfolding exchanged
-exchanged-same false false f e = refl
-exchanged-same true true f e = refl
-exchanged-same false true f e = absurd (toggled-differs false (sym e))
-exchanged-same true false f e = absurd (toggled-differs true (sym e))
+exchanged-same c before f e = rw (xor-same c before e)
 
 exchanged-other : (c before f : Bool) → (c ≡ before → ⊥) → exchanged c before f ≡ before
 unfolding exchanged
-exchanged-other false false f n = absurd (n refl)
-exchanged-other true true f n = absurd (n refl)
-exchanged-other false true f n = refl
-exchanged-other true false f n = refl
+exchanged-other c before f n = rw (xor-other c before n)
 
 -- Where the choices that changed are f's, nothing is gained or lost by it.
 exchanged-weight : (c before f : Bool) (x : ℕ) → ((c ≡ before → ⊥) → c ≡ f)
@@ -399,30 +394,29 @@ module _ (place : ℕ → Bool → ℕ) where
               (g, lg, later g free moved, free, still g free ∙ same)
 
   module _ (weight : ℕ → ℕ) where
+    -- The lightest with one choice of the new key is the lightest, where none with the other choice is lighter.
+    one-lightest : (k : ℕ) (choice : Bool) (c : ℕ → Bool) → LightestWith place weight k choice c
+        → ((f : ℕ → Bool) → Separate place (suc k) f → f k ≡ not choice → total weight c (suc k) ≤ total weight f (suc k))
+        → Lightest place weight (suc k) c
+    one-lightest k choice c one others = record {
+      separate = one .separate;
+      lightest = λ f all. go f all (Bool-discrete choice (f k));
+    }
+      where
+        go : (f : ℕ → Bool) → Separate place (suc k) f → Dec (choice ≡ f k) → total weight c (suc k) ≤ total weight f (suc k)
+        go f all (yes e) = one .lightest f all (sym e)
+        go f all (no n) = others f all (sym (other-choice choice (f k) n))
+
     -- Of the results of the two insertions, the lighter is the lightest sequence with the new key.
     pub lighter-lightest : (k : ℕ) (choice : Bool) (c d : ℕ → Bool) → LightestWith place weight k choice c
         → LightestWith place weight k (not choice) d → total weight c (suc k) ≤ total weight d (suc k)
         → Lightest place weight (suc k) c
-    lighter-lightest k choice c d one other le = record {
-      separate = one .separate;
-      lightest = λ f all. go f all (Bool-discrete choice (f k));
-    }
-      where
-        go : (f : ℕ → Bool) → Separate place (suc k) f → Dec (choice ≡ f k) → total weight c (suc k) ≤ total weight f (suc k)
-        go f all (yes e) = one .lightest f all (sym e)
-        go f all (no n) = omega (arith, le, other .lightest f all (sym (other-choice choice (f k) n)))
+    lighter-lightest k choice c d one other le = one-lightest k choice c one (λ f all e. omega (arith, other .lightest f all e))
 
     -- Where only one insertion has a result, it is the lightest sequence with the new key.
     pub only-lightest : (k : ℕ) (choice : Bool) (c : ℕ → Bool) → LightestWith place weight k choice c
         → NoneWith place k (not choice) → Lightest place weight (suc k) c
-    only-lightest k choice c one none-other = record {
-      separate = one .separate;
-      lightest = λ f all. go f all (Bool-discrete choice (f k));
-    }
-      where
-        go : (f : ℕ → Bool) → Separate place (suc k) f → Dec (choice ≡ f k) → total weight c (suc k) ≤ total weight f (suc k)
-        go f all (yes e) = one .lightest f all (sym e)
-        go f all (no n) = absurd (none-other f all (sym (other-choice choice (f k) n)))
+    only-lightest k choice c one none-other = one-lightest k choice c one (λ f all e. absurd (none-other f all e))
 
   -- Where neither has one, nothing separates the keys.
   pub neither-separate : (k : ℕ) → NoneWith place k false → NoneWith place k true

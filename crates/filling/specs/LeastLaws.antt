@@ -10,29 +10,10 @@ use native.Mathlib.Omega.{arith}
 use lib.ListN.{length}
 use Rattle.lists.specs.FirstLaws.{some-of-isSome, none-of-isSome}
 use Rattle.lists.specs.Occurs.{occurs, distinct}
-use Rattle.lists.specs.OccursLaws.{occurs-here, occurs-there, occurs-cases, occurs-not, absent-cons, absent-tail, distinct-head, distinct-tail, distinct-cons}
+use Rattle.lists.specs.OccursLaws.{occurs-here, occurs-there, occurs-cases, occurs-not, absent-cons, absent-tail, distinct-head}
+use Rattle.lists.specs.OccursLaws.{distinct-tail, distinct-cons}
 use Rattle.filling.specs.Filling.{Key, placeBy, chosen, Fills}
 use Rattle.filling.specs.Least.{NotAfter, beginning, leastFrom, least, feasible}
-
--- A sequence does not come after itself.
-pub notAfter-refl : (cs : List Bool) → NotAfter cs cs
-unfolding NotAfter
-notAfter-refl [] = tt
-notAfter-refl (false ∷ cs) = notAfter-refl cs
-notAfter-refl (true ∷ cs) = notAfter-refl cs
-
--- Of three in order the first does not come after the last.
-pub notAfter-trans : (cs ds es : List Bool) → NotAfter cs ds → NotAfter ds es → NotAfter cs es
-unfolding NotAfter
-notAfter-trans [] ds es p q = tt
-notAfter-trans (c ∷ cs) [] es p q = absurd p
-notAfter-trans (c ∷ cs) (d ∷ ds) [] p q = absurd q
-notAfter-trans (false ∷ cs) (false ∷ ds) (false ∷ es) p q = notAfter-trans cs ds es p q
-notAfter-trans (false ∷ cs) (d ∷ ds) (true ∷ es) p q = tt
-notAfter-trans (false ∷ cs) (true ∷ ds) (false ∷ es) p q = absurd q
-notAfter-trans (true ∷ cs) (false ∷ ds) (e ∷ es) p q = absurd p
-notAfter-trans (true ∷ cs) (true ∷ ds) (false ∷ es) p q = absurd q
-notAfter-trans (true ∷ cs) (true ∷ ds) (true ∷ es) p q = notAfter-trans cs ds es p q
 
 -- Two of which neither comes after the other are one.
 pub notAfter-antisym : (cs ds : List Bool) → NotAfter cs ds → NotAfter ds cs → cs ≡ ds
@@ -44,16 +25,6 @@ notAfter-antisym (false ∷ cs) (false ∷ ds) p q = rw (notAfter-antisym cs ds 
 notAfter-antisym (false ∷ cs) (true ∷ ds) p q = absurd q
 notAfter-antisym (true ∷ cs) (false ∷ ds) p q = absurd p
 notAfter-antisym (true ∷ cs) (true ∷ ds) p q = rw (notAfter-antisym cs ds p q)
-
--- Of any two, one does not come after the other.
-pub notAfter-total : (cs ds : List Bool) → NotAfter cs ds ⊎ NotAfter ds cs
-unfolding NotAfter
-notAfter-total [] ds = inl tt
-notAfter-total (c ∷ cs) [] = inr tt
-notAfter-total (false ∷ cs) (false ∷ ds) = notAfter-total cs ds
-notAfter-total (false ∷ cs) (true ∷ ds) = inl tt
-notAfter-total (true ∷ cs) (false ∷ ds) = inr tt
-notAfter-total (true ∷ cs) (true ∷ ds) = notAfter-total cs ds
 
 -- The numbers xs, taken one after another, are never in use already: what the search tests.
 Fresh : List ℕ → List ℕ → Type 0

@@ -1,4 +1,5 @@
 pub mod Filling
+pub mod Separate
 pub mod FillingLaws
 pub mod Least
 pub mod LeastLaws

@@ -6,20 +6,17 @@ use mathlib.Core.List.{List}
 use mathlib.Core.Option.{some}
 use native.Mathlib.Decide.{decLt}
 use native.Mathlib.Omega.{arith}
-use lib.ListN.{length, getD}
+use lib.ListN.{length}
 use Rattle.lists.specs.UpTo.{upTo}
 use Rattle.lists.specs.UpToLaws.{upTo-length, upTo-at}
-use Rattle.filling.specs.Filling.{Key, placeBy, Fills}
+use Rattle.filling.specs.Filling.{Key, Fills}
+use Rattle.filling.specs.Separate.{byIndex, keyPlace, Separate}
 use Rattle.filling.specs.FillingLaws.{apart-fills, fills-apart}
 use Rattle.filling.specs.Least.{least}
 use Rattle.filling.specs.LeastLaws.{least-only, least-fills, least-least, notAfter-antisym}
-use Rattle.filling.specs.Weight.{keyWeight, choiceWeight, total, byIndex}
+use Rattle.filling.specs.Weight.{keyWeight, choiceWeight, total}
 use Rattle.filling.specs.WeightLaws.{total-same, weight-notAfter, weight-gap, weight-same}
-use Rattle.filling.specs.Insertion.{Separate, Lightest, LightestWith, Taken}
-
--- The place that a choice takes of the key with index i in a list.
-abbrev pub placeIn : List Key → ℕ → Bool → ℕ
-placeIn keys i choice = placeBy choice (getD keys i (0, 0))
+use Rattle.filling.specs.Insertion.{Lightest, LightestWith, Taken}
 
 -- Among the sequences that fill at most 32 keys, the lightest is the least.
 pub lightest-fills : (keys : List Key) (cs : List Bool) → length keys ≤ 32 → Fills keys cs
@@ -32,23 +29,23 @@ lightest-fills keys cs few fills lightest =
 
 -- So the lightest sequence that insertion gives is `least`.
 pub lightest-least : (keys : List Key) (cs : List Bool) → length cs ≡ length keys → length keys ≤ 32
-    → Lightest (placeIn keys) keyWeight (length keys) (byIndex cs) → least keys ≡ some cs
+    → Lightest (keyPlace keys) keyWeight (length keys) (byIndex cs) → least keys ≡ some cs
 lightest-least keys cs l few light =
     lightest-fills keys cs few (apart-fills keys cs l (light .separate))
     (λ ds f. light .lightest (byIndex ds) (fills-apart keys ds f))
 
 -- Choices that separate the keys fill, as a sequence.
-pub separate-fills : (keys : List Key) (f : ℕ → Bool) → Separate (placeIn keys) (length keys) f → Fills keys (upTo (length keys) f)
+pub separate-fills : (keys : List Key) (f : ℕ → Bool) → Separate (keyPlace keys) (length keys) f → Fills keys (upTo (length keys) f)
 separate-fills keys f apart =
     apart-fills keys (upTo (length keys) f) (upTo-length (length keys) f) (λ i j li lj e.
     apart i j li lj (sym (at i li) ∙ e ∙ at j lj))
   where
-    at : (i : ℕ) → i < length keys → placeIn keys i (byIndex (upTo (length keys) f) i) ≡ placeIn keys i (f i)
+    at : (i : ℕ) → i < length keys → keyPlace keys i (byIndex (upTo (length keys) f) i) ≡ keyPlace keys i (f i)
     at i lt = rw (upTo-at (length keys) f false i lt)
 
 -- The least sequence is the lightest: what separates the keys does not come before it, so it is not lighter.
 pub least-lightest : (keys : List Key) {cs : List Bool} → length keys ≤ 32 → least keys ≡ some cs
-    → Lightest (placeIn keys) keyWeight (length keys) (byIndex cs)
+    → Lightest (keyPlace keys) keyWeight (length keys) (byIndex cs)
 least-lightest keys {cs} few e = record {
   separate = fills-apart keys cs fills;
   lightest = λ f apart. go f apart (decLt (total keyWeight f (length keys)) (total keyWeight (byIndex cs) (length keys)));
@@ -57,7 +54,7 @@ least-lightest keys {cs} few e = record {
     fills : Fills keys cs
     fills = least-fills keys e
 
-    go : (f : ℕ → Bool) → Separate (placeIn keys) (length keys) f
+    go : (f : ℕ → Bool) → Separate (keyPlace keys) (length keys) f
         → Dec (total keyWeight f (length keys) < total keyWeight (byIndex cs) (length keys))
         → total keyWeight (byIndex cs) (length keys) ≤ total keyWeight f (length keys)
     go f apart (no n) = omega (arith, n)

@@ -9,7 +9,8 @@ use mathlib.Core.List.{List, [], _∷_}
 use native.Mathlib.Omega.{arith}
 use lib.ListN.{length, getD}
 use Rattle.lists.specs.Occurs.{occurs, distinct}
-use Rattle.lists.specs.OccursLaws.{occurs-here, occurs-there, occurs-cases, occurs-not, distinct-cons, pigeonhole, numbersBelow, numbersBelow-length, numbersBelow-occurs}
+use Rattle.lists.specs.OccursLaws.{occurs-here, occurs-there, occurs-cases, occurs-not, distinct-cons, pigeonhole, numbersBelow}
+use Rattle.lists.specs.OccursLaws.{numbersBelow-length, numbersBelow-occurs}
 use Rattle.filling.specs.Filling.{Key, placeBy, Fills, EachCandidate}
 use Rattle.filling.specs.FillingLaws.{fills-touches}
 use Rattle.filling.specs.Touched.{candidatePlaces, once, touched}

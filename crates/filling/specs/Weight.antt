@@ -2,8 +2,6 @@
 -- Another order of choices is another `keyWeight`. Choices are read by index here, past the last key as well. Assumes nothing.
 use Prim.Native.Nat.{ℕ, zero, suc, _+_, _-_, _^_}
 use mathlib.Core.Bool.{Bool, true, false}
-use mathlib.Core.List.{List}
-use lib.ListN.{getD}
 
 -- What the second place of the key with index i weighs, for i up to 31: more than the second places of all later keys together.
 unfoldable pub keyWeight : ℕ → ℕ
@@ -19,6 +17,6 @@ unfoldable pub total : (ℕ → ℕ) → (ℕ → Bool) → ℕ → ℕ
 total weight choices zero = 0
 total weight choices (suc n) = total weight choices n + choiceWeight (choices n) (weight n)
 
--- A choice sequence by index: choice 0 past its end.
-abbrev pub byIndex : List Bool → ℕ → Bool
-byIndex choices i = getD choices i false
+-- How many of the first n choices are choice 1: what they weigh where every key weighs 1.
+abbrev pub count : (ℕ → Bool) → ℕ → ℕ
+count = total (λ _. 1)

@@ -9,8 +9,10 @@ use native.Mathlib.Numerals.{add-one}
 use native.Mathlib.Omega.{arith}
 use lib.ListN.{length}
 use lib.Pow.{pow-mono, pow-pos}
+use Rattle.filling.specs.Separate.{byIndex}
 use Rattle.filling.specs.Least.{NotAfter}
-use Rattle.filling.specs.Weight.{keyWeight, choiceWeight, total, byIndex}
+use Rattle.filling.specs.WordLaws.{choice-same}
+use Rattle.filling.specs.Weight.{keyWeight, choiceWeight, total, count}
 
 -- A choice weighs at most what its key does.
 choice-most : (c : Bool) (x : ℕ) → choiceWeight c x ≤ x
@@ -47,27 +49,35 @@ unfolding total
 weight-most c zero = omega arith
 weight-most c (suc n) = omega (arith, choice-most (c n) (keyWeight n), keyWeight-most n, weight-most c n)
 
--- With weight 1 for each key the weight is a count: at most n.
-pub total-count : (c : ℕ → Bool) (n : ℕ) → total (λ _. 1) c n ≤ n
+-- At most n of n choices are choice 1.
+pub count-most : (c : ℕ → Bool) (n : ℕ) → count c n ≤ n
 unfolding total
-total-count c zero = omega arith
-total-count c (suc n) = omega (arith, choice-most (c n) 1, total-count c n)
+count-most c zero = omega arith
+count-most c (suc n) = omega (arith, choice-most (c n) 1, count-most c n)
 
--- Key o's choice changed from 1 to 0 takes its weight away.
-pub total-less : (w : ℕ → ℕ) (c d : ℕ → Bool) (o n : ℕ) → o < n → c o ≡ true → d o ≡ false
-    → ((i : ℕ) → (i ≡ o → ⊥) → c i ≡ d i) → total w c n ≡ total w d n + w o
-unfolding total choiceWeight
-total-less w c d o zero lt p q others = absurd (omega arith)
-total-less w c d o (suc n) lt p q others = go (ℕ-discrete o n) (λ below. total-less w c d o n below p q others)
+-- Each choice weighs no more than all together.
+pub total-has : (w : ℕ → ℕ) (c : ℕ → Bool) (n i : ℕ) → i < n → choiceWeight (c i) (w i) ≤ total w c n
+unfolding total
+total-has w c zero i lt = absurd (omega arith)
+total-has w c (suc n) i lt = go (ℕ-discrete i n) (total-has w c n i)
   where
-    go : Dec (o ≡ n) → (o < n → total w c n ≡ total w d n + w o)
-        → total w c n + choiceWeight (c n) (w n) ≡ total w d n + choiceWeight (d n) (w n) + w o
-    go (yes e) lower =
-        let same = total-same w w c d o (λ i l. refl) (λ i l. others i (λ z. omega arith)) in
-        rw (← e, p, q, same) (omega arith)
-    go (no m) lower =
-        let below : o < n = omega (arith, m) in
-        rw (others n (λ z. m (sym z))) (omega (arith, lower below))
+    go : Dec (i ≡ n) → (i < n → choiceWeight (c i) (w i) ≤ total w c n)
+        → choiceWeight (c i) (w i) ≤ total w c n + choiceWeight (c n) (w n)
+    go (yes e) rest = rw e (omega arith)
+    go (no m) rest = omega (arith, rest (omega (arith, m)))
+
+-- Choices that differ for key o at most weigh the same but for that.
+pub total-change : (w : ℕ → ℕ) (c d : ℕ → Bool) (o n : ℕ) → o < n → ((i : ℕ) → (i ≡ o → ⊥) → c i ≡ d i)
+    → total w c n + choiceWeight (d o) (w o) ≡ total w d n + choiceWeight (c o) (w o)
+unfolding total
+total-change w c d o zero lt others = absurd (omega arith)
+total-change w c d o (suc n) lt others = go (ℕ-discrete o n) (λ below. total-change w c d o n below others)
+  where
+    go : Dec (o ≡ n) → (o < n → total w c n + choiceWeight (d o) (w o) ≡ total w d n + choiceWeight (c o) (w o))
+        → total w c n + choiceWeight (c n) (w n) + choiceWeight (d o) (w o)
+        ≡ total w d n + choiceWeight (d n) (w n) + choiceWeight (c o) (w o)
+    go (yes e) lower = rw (e, total-same w w c d n (λ i l. refl) (λ i l. others i (λ z. omega arith))) (omega arith)
+    go (no m) lower = rw (others n (λ z. m (sym z))) (omega (arith, lower (omega (arith, m))))
 
 -- The first choice, and the weight of the others by the weights from the second key on.
 total-cons : (w : ℕ → ℕ) (c : Bool) (cs : List Bool) (n : ℕ)
@@ -165,13 +175,6 @@ weight-gap c d (suc n) le lt =
     (keyWeight-next n (omega arith)) (weight-gap c d n (omega arith)) (weight-gap d c n (omega arith)) lt
 
 -- So choices that weigh the same are the same.
-choice-same : (p q : Bool) (w : ℕ) → 0 < w → choiceWeight p w ≡ choiceWeight q w → p ≡ q
-unfolding choiceWeight
-choice-same false false w pos e = refl
-choice-same false true w pos e = absurd (omega arith)
-choice-same true false w pos e = absurd (omega arith)
-choice-same true true w pos e = refl
-
 sum-same : (c d : ℕ → Bool) (n : ℕ) → n ≤ 31 → total keyWeight c (suc n) ≡ total keyWeight d (suc n)
     → total keyWeight c n ≡ total keyWeight d n
 unfolding total
@@ -187,7 +190,7 @@ sum-same c d n le e = go (decLt (total keyWeight c n) (total keyWeight d n)) (de
 
 pub weight-same : (c d : ℕ → Bool) (n : ℕ) → n ≤ 32 → total keyWeight c n ≡ total keyWeight d n
     → (i : ℕ) → i < n → c i ≡ d i
-unfolding total
+unfolding total choiceWeight
 weight-same c d zero le e i lt = absurd (omega arith)
 weight-same c d (suc n) le e i lt = go (ℕ-discrete i n) (λ below. weight-same c d n (omega arith) level i below)
   where
@@ -195,5 +198,6 @@ weight-same c d (suc n) le e i lt = go (ℕ-discrete i n) (λ below. weight-same
     level = sum-same c d n (omega arith) e
 
     go : Dec (i ≡ n) → (i < n → c i ≡ d i) → c i ≡ d i
-    go (yes z) earlier = rw z (choice-same (c n) (d n) (keyWeight n) (keyWeight-positive n) (omega (arith, level)))
+    go (yes z) earlier =
+        rw z (choice-same (λ b. choiceWeight b (keyWeight n)) (keyWeight-positive n) (c n) (d n) (omega (arith, level)))
     go (no z) earlier = earlier (omega (arith, z))

@@ -1,7 +1,7 @@
 -- The choice word and the choices determine each other. Assumes nothing.
-use Prim.Native.Nat.{ℕ, zero, suc, _+_, _*_, _/_, _%_, _^_, _<_}
+use Prim.Native.Nat.{ℕ, zero, suc, _+_, _*_, _-_, _/_, _%_, _^_, _<_}
 use mathlib.Core.Path.{_≡_, refl, ap}
-use mathlib.Core.Bool.{Bool, true, false}
+use mathlib.Core.Bool.{Bool, true, false, not}
 use mathlib.Core.List.{List, [], _∷_}
 use native.Mathlib.Nat.{pow-succ', div-one, div-div-eq-div-mul}
 use native.Mathlib.Omega.{arith}
@@ -26,17 +26,35 @@ unfolding choiceNumber
 word-high false w = omega arith
 word-high true w = omega arith
 
+-- A number that is less for choice 0 than for choice 1 tells them apart;
+pub choice-same : (f : Bool → ℕ) → f false < f true → (c d : Bool) → f c ≡ f d → c ≡ d
+choice-same f less false false e = refl
+choice-same f less false true e = absurd (omega arith)
+choice-same f less true false e = absurd (omega arith)
+choice-same f less true true e = refl
+
+-- so does a choice's own number.
+pub choiceNumber-same : (c d : Bool) → choiceNumber c ≡ choiceNumber d → c ≡ d
+unfolding choiceNumber
+choiceNumber-same = choice-same choiceNumber (omega arith)
+
 -- A choice is its number, and a number below 2 that of its choice.
 choice-number : (c : Bool) → eqb (choiceNumber c) 1 ≡ c
 unfolding choiceNumber
 choice-number false = refl
 choice-number true = refl
 
-number-choice : (x : ℕ) → x < 2 → choiceNumber (eqb x 1) ≡ x
+pub number-choice : (x : ℕ) → x < 2 → choiceNumber (eqb x 1) ≡ x
 unfolding choiceNumber
 number-choice zero lt = refl
 number-choice (suc zero) lt = refl
 number-choice (suc (suc x)) lt = absurd (omega arith)
+
+-- 1 less a number below 2 is that of the other choice.
+pub other-number : (x : ℕ) → x < 2 → eqb (1 - x) 1 ≡ not (eqb x 1)
+other-number zero lt = refl
+other-number (suc zero) lt = refl
+other-number (suc (suc x)) lt = absurd (omega arith)
 
 -- The word determines the choices,
 pub word-choices : (cs : List Bool) → choicesOf (length cs) (wordOf cs) ≡ cs

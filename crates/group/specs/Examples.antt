@@ -2,9 +2,9 @@
 use mathlib.Core.Path.{_≡_, refl}
 use mathlib.Core.List.{List, [], _∷_}
 use mathlib.Core.Option.{orElse}
-use Prim.Native.Nat.{ℕ}
+use Prim.Native.Nat.{ℕ, suc}
 use lib.ListN.{replicate}
-use Rattle.refusal.specs.Limits.{outside}
+use Rattle.refusal.specs.Limits.{groupMax, outside}
 use Rattle.refusal.specs.Outcome.{refused}
 use Rattle.lists.specs.First.{first, metAt, isSome}
 use Rattle.refusal.specs.Checks.{met, inOrder}
@@ -23,15 +23,15 @@ unfolding orElse outside first metAt isSome met inOrder product highPart hashed 
     placingOf
 computed = 0
 
--- One tag 25 times, which is too many tags, not ascending, and has no seed.
-abbrev twentyFive : List ℕ
-twentyFive = replicate 25 7
+-- One tag, once more than a group holds tags, which is too many tags, not ascending, and has no seed.
+abbrev tooMany : List ℕ
+tooMany = replicate (suc groupMax) 7
 
-four-before-five : placingOf twentyFive 0 ≡ refused 4 0
+four-before-five : placingOf tooMany 0 ≡ refused 4 0
 unfolding computed
 four-before-five = refl
 
-five-before-six : placingOf twentyFive 1 ≡ refused 5 0
+five-before-six : placingOf tooMany 1 ≡ refused 5 0
 unfolding computed
 five-before-six = refl
 

@@ -6,7 +6,7 @@ use mathlib.Core.List.{List, [], _∷_}
 use mathlib.Core.Option.{none, some}
 use native.Mathlib.Omega.{arith}
 use lib.ListN.{length, getD, length-map}
-use Rattle.lists.specs.FirstLaws.{some-of-isSome, first-some, first-none, first-found, first-out, first-more}
+use Rattle.lists.specs.FirstLaws.{some-of-isSome, first-some, first-none, first-found, first-out}
 use Rattle.lists.specs.Occurs.{distinct}
 use Rattle.hash.specs.Formula.{placeOf}
 use Rattle.hash.specs.FormulaLaws.{place-below}
@@ -124,11 +124,6 @@ module _ (tags : List ℕ) where
   unfolding leastSeed
   leastSeed-out limit out =
       first-out (seedTest tags) limit (λ t lt. none-infeasible (groupUnder tags t) (out t lt))
-
-  -- A greater limit leaves a seed that is found as it is.
-  pub leastSeed-more : (limit more : ℕ) {s : ℕ} → limit ≤ more → leastSeed tags limit ≡ some s → leastSeed tags more ≡ some s
-  unfolding leastSeed
-  leastSeed-more limit more le e = first-more (seedTest tags) limit more le e
 
 -- The empty sequence fills the empty group.
 fills-empty : (s : ℕ) → Fills (groupUnder [] s) []

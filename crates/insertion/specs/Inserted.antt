@@ -5,7 +5,7 @@ use mathlib.Core.List.{List}
 use Rattle.filling.specs.Weight.{keyWeight}
 use Rattle.filling.specs.Insertion.{Lightest, LightestWith, NoneWith}
 use Rattle.bits.specs.WordBits.{choiceIn}
-use Rattle.insertion.specs.Entry.{entryOf}
+use Rattle.places.specs.Array.{entryOf}
 use Rattle.insertion.specs.declared.Inserted.{Inserted}
 use Rattle.insertion.specs.declared.Inserted.the-variants.{Word, Nothing}
 

@@ -1,7 +1,7 @@
 -- The steps of weighted insertion, over an array of places and a word: a law for each step of the code. Assumes nothing.
 use Prim.Native.Nat.{ℕ, suc, _+_, _-_, _^_, _≤_, _<_}
 use mathlib.Core.Path.{_≡_, refl, sym, _∙_, ap}
-use mathlib.Core.Bool.{Bool, true, false, cond}
+use mathlib.Core.Bool.{Bool, true, false, not, cond}
 use mathlib.Core.List.{List}
 use mathlib.Core.Option.{some, Option·map}
 use native.Mathlib.Numerals.{add-one}
@@ -12,20 +12,22 @@ use borrow.Author.Tests.{ltb-true, ltb-false}
 use Rattle.refusal.specs.Limits.{groupMax}
 use Rattle.bits.specs.Bit.{setBit}
 use Rattle.filling.specs.Word.{choiceNumber, wordOf}
+use Rattle.filling.specs.WordLaws.{choiceNumber-same}
 use Rattle.filling.specs.Least.{least}
 use Rattle.filling.specs.Weight.{keyWeight, choiceWeight, total}
 use Rattle.filling.specs.Insertion.{Lightest, NoneWith, Occupies, Insertion, Walk}
-use Rattle.filling.specs.InsertionLaws.{insertion-start, insertion-turn, insertion-done, insertion-stuck, insertion-returned, walk-start, walk-free, walk-occupied, walk-returned, walk-turn, lighter-lightest, only-lightest, neither-separate, lightest-same}
+use Rattle.filling.specs.InsertionLaws.{insertion-start, insertion-turn, insertion-done, insertion-stuck, insertion-returned, walk-start}
+use Rattle.filling.specs.InsertionLaws.{walk-free, walk-occupied, walk-returned, walk-turn, lighter-lightest, only-lightest}
+use Rattle.filling.specs.InsertionLaws.{neither-separate, lightest-same}
 use Rattle.filling.specs.LightestLaws.{second-place-lightest}
-use Rattle.bits.specs.WordBits.{choiceIn, toggleBit}
-use Rattle.bits.specs.WordBitsLaws.{choiceNumber-same, toggle-below, toggle-toggled, choice-past, choice-set, choice-kept, word-grown, set-grown}
-use Rattle.insertion.specs.Entry.{entryOf, Candidates}
-use Rattle.insertion.specs.EntryLaws.{entry-other, entry-part, candidates-fewer}
-use Rattle.insertion.specs.Keys.{keysOf}
+use Rattle.bits.specs.WordBits.{choiceIn, toggleBit, withChoice}
+use Rattle.bits.specs.WordBitsLaws.{toggle-below, toggle-toggled, choice-own, choice-kept, choice-grown}
+use Rattle.places.specs.Array.{entryOf, Candidates, keysOf}
+use Rattle.places.specs.ArrayLaws.{entry-other, entry-part, candidates-fewer}
 use Rattle.insertion.specs.Answer.{insertedMeaning}
 use Rattle.insertion.specs.LeastWordLaws.{lightest-word, word-lightest, nothing-word}
 use Rattle.insertion.specs.WordWeight.{wordWeight, lighterOf}
-use Rattle.insertion.specs.Occupants.{occupantsOf, Occupied}
+use Rattle.insertion.specs.Occupants.{placeTaken, occupantsOf, Occupied}
 use Rattle.insertion.specs.OccupantsLaws.{occupied-same, free-untaken, cell-taken, occupied-more, occupied-only, occupied-of}
 use Rattle.insertion.specs.Inserted.{LightestWord, LightestWordWith, InsertedIs}
 use Rattle.insertion.specs.declared.Inserted.{Inserted}
@@ -51,12 +53,12 @@ module _ (places : List ℕ) where
   pub record Inserting (k word choices place left : ℕ) : Type 0 where
     pub below : choices < 2 ^ (k + 1)
     pub displaced : ℕ
-    pub going : entryOf places displaced (choiceIn choices displaced) ≡ place
+    pub going : placeTaken places choices displaced ≡ place
     pub insertion : Insertion (entryOf places) k (choiceIn word) (choiceIn choices) displaced left
     pub walk : Walk (entryOf places) k (choiceIn word) (choiceIn choices) displaced
 
   pub inserting-start : (k word : ℕ) → word < 2 ^ (k + 1) → Lightest (entryOf places) keyWeight k (choiceIn word)
-      → Inserting k word word (entryOf places k (choiceIn word k)) k
+      → Inserting k word word (placeTaken places word k) k
   inserting-start k word below light = record {
     below = below;
     displaced = k;
@@ -89,11 +91,10 @@ module _ (places : List ℕ) where
         occupant-below : o < k
         occupant-below = occupied .who place o cell .0
 
-        had : entryOf places o (choiceIn word o) ≡ place
+        had : placeTaken places word o ≡ place
         had = occupied .who place o cell .1
 
-        goes : entryOf places o (choiceIn word o)
-            ≡ entryOf places (state .displaced) (choiceIn choices (state .displaced))
+        goes : placeTaken places word o ≡ placeTaken places choices (state .displaced)
         goes = had ∙ sym (state .going)
 
         -- Where it has moved since, nothing separates the keys.
@@ -138,30 +139,26 @@ module _ (places : List ℕ) where
 
   -- The two insertions of key k into the word of the least sequence before it, with bit k clear and with it set.
   module _ (k word : ℕ) (before : Before places k word) where
-    -- The word is the lightest,
+    -- The place of key k under a choice has a cell.
+    pub place-within : (choice : Bool) → entryOf places k choice < groupMax
+    place-within = before .1 .below k (omega arith)
+
+    -- The word is the lightest of the keys before k,
     was : LightestWord places k word
     was = word-lightest places k word (omega (arith, before .0)) (before .2)
 
-    past : choiceIn word k ≡ false
-    past = choice-past k word (was .below)
+    -- with either choice of key k,
+    grown-lightest : (c : Bool) → Lightest (entryOf places) keyWeight k (choiceIn (withChoice word k c))
+    grown-lightest c =
+        lightest-same (entryOf places) (entryOf places) keyWeight k (choiceIn word) (choiceIn (withChoice word k c))
+        (λ i lt b. refl) (choice-kept k word (was .below) c) (was .lightest)
 
-    -- with bit k set as well.
-    set-lightest : Lightest (entryOf places) keyWeight k (choiceIn (setBit word k))
-    set-lightest =
-        lightest-same (entryOf places) (entryOf places) keyWeight k (choiceIn word) (choiceIn (setBit word k))
-        (λ i lt b. refl) (choice-kept word k) (was .lightest)
+    -- which is the choice that it is inserted with.
+    chosen-lightest : (c : Bool) {v : ℕ} → InsertedIs places k (withChoice word k c) (Word v) → LightestWordWith places k c v
+    chosen-lightest c inserted = rw (choice-own k word (was .below) c) at inserted
 
-    first-lightest : {a : ℕ} → InsertedIs places k word (Word a) → LightestWordWith places k false a
-    first-lightest first = rw past at first
-
-    first-none : InsertedIs places k word Nothing → NoneWith (entryOf places) k false
-    first-none first = rw past at first
-
-    second-lightest : {b : ℕ} → InsertedIs places k (setBit word k) (Word b) → LightestWordWith places k true b
-    second-lightest second = rw (choice-set word k) at second
-
-    second-none : InsertedIs places k (setBit word k) Nothing → NoneWith (entryOf places) k true
-    second-none second = rw (choice-set word k) at second
+    chosen-none : (c : Bool) → InsertedIs places k (withChoice word k c) Nothing → NoneWith (entryOf places) k c
+    chosen-none c inserted = rw (choice-own k word (was .below) c) at inserted
 
     -- The lightest word of the keys up to k is the answer.
     lightest-up : (v : ℕ) → v < 2 ^ (k + 1) → Lightest (entryOf places) keyWeight (suc k) (choiceIn v)
@@ -169,27 +166,32 @@ module _ (places : List ℕ) where
     lightest-up v small light =
         lightest-word places (k + 1) v (omega (arith, before .0)) (record { below = small; lightest = rw (add-one k) light })
 
-    -- Where the first has no result, that of the second stays.
+    -- Where the insertion with one choice has no result, that with the other stays.
+    pub one-stays : (c : Bool) (v : ℕ) → InsertedIs places k (withChoice word k c) (Word v)
+        → InsertedIs places k (withChoice word k (not c)) Nothing → WithKeyIs places k (Word v)
+    one-stays c v inserted other =
+        let light = chosen-lightest c inserted in
+        lightest-up v (light .below)
+        (only-lightest (entryOf places) keyWeight k c (choiceIn v) (light .lightest) (chosen-none (not c) other))
+
     pub second-stays : (r : Inserted) → InsertedIs places k word Nothing → InsertedIs places k (setBit word k) r
         → WithKeyIs places k r
-    second-stays (Word b) first second =
-        let light = second-lightest second in
-        lightest-up b (light .below)
-        (only-lightest (entryOf places) keyWeight k true (choiceIn b) (light .lightest) (first-none first))
+    unfolding withChoice
+    second-stays (Word b) first second = one-stays true b second first
     second-stays Nothing first second =
         nothing-word places (k + 1)
-        (rw (← add-one k) at (neither-separate (entryOf places) k (first-none first) (second-none second)))
+        (rw (← add-one k) at (neither-separate (entryOf places) k (chosen-none false first) (chosen-none true second)))
 
     -- Where the first moved no key, its word stays: what is lighter would be lighter without key k.
     unmoved-stays : InsertedIs places k word (Word word) → WithKeyIs places k (Word word)
-    unfolding total choiceWeight
+    unfolding total choiceWeight withChoice
     unmoved-stays first =
-        let own = first-lightest first in
+        let own = chosen-lightest false first in
         lightest-up word (own .below) (record {
           separate = own .lightest .separate;
           lightest = λ f apart.
               let less = was .lightest .lightest f (λ i j li lj same. apart i j (omega arith) (omega arith) same) in
-              rw past (omega (arith, less));
+              rw (choice-own k word (was .below) false) (omega (arith, less));
         })
 
     -- The cells are those of the keys before k.
@@ -198,70 +200,54 @@ module _ (places : List ℕ) where
       occupied =
           rw same (occupied-of places (candidates-fewer k (omega arith) (before .1)) (was .lightest .separate))
 
-      occupied-set : Occupied places (setBit word k) k cells
-      occupied-set = occupied-same places word (setBit word k) k (choice-kept word k) occupied
+      occupied-with : (c : Bool) → Occupied places (withChoice word k c) k cells
+      occupied-with c = occupied-same places word (withChoice word k c) k (choice-kept k word (was .below) c) occupied
 
       pub cells-size : length cells ≡ groupMax
       cells-size = occupied .size
 
-      -- So key k can be inserted with choice 0 and with choice 1.
-      pub first-ready : Ready places k word cells
-      first-ready = ((before .0, before .1, word-grown k word (was .below)), (was .lightest, occupied))
+      -- So key k can be inserted with either choice.
+      pub ready : (c : Bool) → Ready places k (withChoice word k c) cells
+      ready c = ((before .0, before .1, choice-grown k word (was .below) c), (grown-lightest c, occupied-with c))
 
-      pub second-ready : Ready places k (setBit word k) cells
-      second-ready = ((before .0, before .1, set-grown k word (was .below)), (set-lightest, occupied-set))
+      -- Where its place under a choice is free, no key moves, and key k has the place.
+      module _ (c : Bool) (free : getD cells (entryOf places k c) 0 ≡ 0) where
+        unmoved : InsertedIs places k (withChoice word k c) (Word (withChoice word k c))
+        unmoved =
+            inserting-done (inserting-start k (withChoice word k c) (choice-grown k word (was .below) c) (grown-lightest c))
+            (occupied-with c) (grown-lightest c) (rw (choice-own k word (was .below) c) free)
 
-      -- Where the first place of key k is free, key k goes there.
-      module _ (free : getD cells (entryOf places k false) 0 ≡ 0) where
-        pub first-free : WithKeyIs places k (Word word)
-        first-free =
-            unmoved-stays
-            (inserting-done (inserting-start k word (word-grown k word (was .below)) (was .lightest)) occupied (was .lightest)
-            (rw past free))
+        pub free-occupied : set cells (entryOf places k c) (k + 1) ≡ occupantsOf places (withChoice word k c) (k + 1)
+        free-occupied =
+            occupied-only places (occupied-more places (occupied-with c) (entryOf places k c)
+            (rw (choice-own k word (was .below) c)) (before .1 .below k (omega arith) c) free)
 
-        pub first-occupied : set cells (entryOf places k false) (k + 1) ≡ occupantsOf places word (k + 1)
-        first-occupied =
-            occupied-only places (occupied-more places occupied (entryOf places k false) (rw past refl)
-            (before .1 .below k (omega arith) false) free)
+      -- So the word stays where the first place of key k is free,
+      pub first-free : getD cells (entryOf places k false) 0 ≡ 0 → WithKeyIs places k (Word word)
+      unfolding withChoice
+      first-free free = unmoved-stays (unmoved false free)
 
-      -- Where it is taken and the second is free, key k goes to its second place.
-      module _ (free : getD cells (entryOf places k true) 0 ≡ 0) where
-        pub second-free : (getD cells (entryOf places k false) 0 ≡ 0 → ⊥) → WithKeyIs places k (Word (setBit word k))
-        second-free busy =
-            let grown = set-grown k word (was .below) in
-            let own =
-            second-lightest
-            (inserting-done (inserting-start k (setBit word k) grown set-lightest) occupied-set set-lightest
-            (rw (choice-set word k) free)) in
-            lightest-up (setBit word k) grown
-            (second-place-lightest (entryOf places) k (omega (arith, before .0)) (choiceIn word) (choiceIn (setBit word k))
-            (was .lightest) (choice-kept word k) (choice-set word k)
-            (cell-taken places occupied (entryOf places k false) busy) (own .lightest))
-
-        pub second-occupied : set cells (entryOf places k true) (k + 1) ≡ occupantsOf places (setBit word k) (k + 1)
-        second-occupied =
-            occupied-only places (occupied-more places occupied-set (entryOf places k true) (rw (choice-set word k) refl)
-            (before .1 .below k (omega arith) true) free)
-
-    -- Where the second has none, that of the first stays.
-    pub first-stays : (a : ℕ) → InsertedIs places k word (Word a) → InsertedIs places k (setBit word k) Nothing
-        → WithKeyIs places k (Word a)
-    first-stays a first second =
-        let light = first-lightest first in
-        lightest-up a (light .below)
-        (only-lightest (entryOf places) keyWeight k false (choiceIn a) (light .lightest) (second-none second))
+      -- and where it is taken and the second is free, key k goes to its second place.
+      pub second-free : getD cells (entryOf places k true) 0 ≡ 0 → (getD cells (entryOf places k false) 0 ≡ 0 → ⊥)
+          → WithKeyIs places k (Word (setBit word k))
+      unfolding withChoice
+      second-free free busy =
+          lightest-up (setBit word k) (choice-grown k word (was .below) true)
+          (second-place-lightest (entryOf places) k (omega (arith, before .0)) (choiceIn word) (choiceIn (setBit word k))
+          (was .lightest) (choice-kept k word (was .below) true) (choice-own k word (was .below) true)
+          (cell-taken places occupied (entryOf places k false) busy) (chosen-lightest true (unmoved true free) .lightest))
 
     -- Where both have one, the lighter stays.
     pub lighter-stays : (a b : ℕ) → InsertedIs places k word (Word a) → InsertedIs places k (setBit word k) (Word b)
         → WithKeyIs places k (Word (lighterOf (k + 1) a b))
-    unfolding lighterOf
+    unfolding lighterOf withChoice
     lighter-stays a b first second = go (ltb (wordWeight (k + 1) b) (wordWeight (k + 1) a)) refl
       where
         light : LightestWordWith places k false a
-        light = first-lightest first
+        light = chosen-lightest false first
 
         other : LightestWordWith places k true b
-        other = second-lightest second
+        other = chosen-lightest true second
 
         go : (t : Bool) → ltb (wordWeight (k + 1) b) (wordWeight (k + 1) a) ≡ t → WithKeyIs places k (Word (cond t b a))
         go true e =

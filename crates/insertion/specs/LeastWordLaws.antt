@@ -1,34 +1,34 @@
 -- What weighted insertion leads to: the lightest word of the keys of an array is that of their least sequence. Assumes nothing.
 use Prim.Native.Nat.{ℕ, _≤_, _<_}
-use mathlib.Core.Path.{_≡_, refl, sym, _∙_, ap}
+use mathlib.Core.Path.{_≡_, refl, sym, _∙_}
 use mathlib.Core.Bool.{Bool}
 use mathlib.Core.List.{List}
 use mathlib.Core.Option.{Option, none, some, Option·map}
 use native.Mathlib.Omega.{arith}
 use lib.ListN.{length}
 use Rattle.lists.specs.UpTo.{upTo}
+use Rattle.filling.specs.Separate.{byIndex, keyPlace, Separate}
 use Rattle.filling.specs.FillingLaws.{fills-apart}
 use Rattle.filling.specs.Word.{wordOf, choicesOf}
-use Rattle.filling.specs.WordLaws.{choicesOf-length, choices-word, word-choices, word-below}
+use Rattle.filling.specs.WordLaws.{choicesOf-length, choices-word, word-below}
 use Rattle.filling.specs.Least.{least}
 use Rattle.filling.specs.LeastLaws.{least-fills, least-none}
-use Rattle.filling.specs.Weight.{keyWeight, byIndex}
-use Rattle.filling.specs.Insertion.{Separate, Lightest}
+use Rattle.filling.specs.Weight.{keyWeight}
+use Rattle.filling.specs.Insertion.{Lightest}
 use Rattle.filling.specs.InsertionLaws.{lightest-same}
-use Rattle.filling.specs.LightestLaws.{placeIn, lightest-least, separate-fills, least-lightest}
+use Rattle.filling.specs.LightestLaws.{lightest-least, separate-fills, least-lightest}
 use Rattle.bits.specs.WordBits.{choiceIn}
-use Rattle.bits.specs.WordBitsLaws.{choicesOf-at}
-use Rattle.insertion.specs.Entry.{entryOf}
+use Rattle.bits.specs.WordBitsLaws.{choicesOf-at, word-choice}
+use Rattle.places.specs.Array.{entryOf, keysOf}
+use Rattle.places.specs.ArrayLaws.{keysOf-length, keysOf-place}
 use Rattle.insertion.specs.Inserted.{LightestWord}
-use Rattle.insertion.specs.Keys.{keysOf}
-use Rattle.insertion.specs.KeysLaws.{keysOf-length, keysOf-place}
 
 module _ (places : List ℕ) (count : ℕ) where
   sized : length (keysOf count places) ≡ count
   sized = keysOf-length count places
 
   -- What separates the keys of the list separates those of the array,
-  array-separate : (f : ℕ → Bool) → Separate (placeIn (keysOf count places)) (length (keysOf count places)) f
+  array-separate : (f : ℕ → Bool) → Separate (keyPlace (keysOf count places)) (length (keysOf count places)) f
       → Separate (entryOf places) count f
   array-separate f apart i j li lj e =
       apart i j (omega (arith, sized)) (omega (arith, sized))
@@ -36,7 +36,7 @@ module _ (places : List ℕ) (count : ℕ) where
 
   -- and the other way round.
   list-separate : (f : ℕ → Bool) → Separate (entryOf places) count f
-      → Separate (placeIn (keysOf count places)) (length (keysOf count places)) f
+      → Separate (keyPlace (keysOf count places)) (length (keysOf count places)) f
   list-separate f apart i j li lj e =
       let bi : i < count = omega (arith, sized) in
       let bj : j < count = omega (arith, sized) in
@@ -47,9 +47,9 @@ module _ (places : List ℕ) (count : ℕ) where
       → some word ≡ Option·map wordOf (least (keysOf count places))
   lightest-word word few light = rw (found, choices-word count word (light .below))
     where
-      listed : Lightest (placeIn (keysOf count places)) keyWeight count (byIndex (choicesOf count word))
+      listed : Lightest (keyPlace (keysOf count places)) keyWeight count (byIndex (choicesOf count word))
       listed =
-          lightest-same (entryOf places) (placeIn (keysOf count places)) keyWeight count
+          lightest-same (entryOf places) (keyPlace (keysOf count places)) keyWeight count
           (choiceIn word) (byIndex (choicesOf count word))
           (λ i lt b. sym (keysOf-place count places i lt b)) (λ i lt. choicesOf-at count word i lt) (light .lightest)
 
@@ -63,11 +63,6 @@ module _ (places : List ℕ) (count : ℕ) where
       → LightestWord places count word
   word-lightest word few = go (least (keysOf count places)) refl
     where
-      bits : (cs : List Bool) → length cs ≡ count → (i : ℕ) → i < count → byIndex cs i ≡ choiceIn (wordOf cs) i
-      bits cs whole i lt =
-          let back : choicesOf count (wordOf cs) ≡ cs = rw whole at (word-choices cs) in
-          sym (choicesOf-at count (wordOf cs) i lt ∙ ap (λ (xs : List Bool). byIndex xs i) back)
-
       go : (o : Option (List Bool)) → least (keysOf count places) ≡ o → some word ≡ Option·map wordOf o
           → LightestWord places count word
       go none e z = absurd (let n : _≡_ {A = ℕ} 0 1 = cc in omega arith)
@@ -77,8 +72,8 @@ module _ (places : List ℕ) (count : ℕ) where
           rw same (record {
             below = rw whole at (word-below cs);
             lightest =
-                lightest-same (placeIn (keysOf count places)) (entryOf places) keyWeight count
-                (byIndex cs) (choiceIn (wordOf cs)) (keysOf-place count places) (bits cs whole)
+                lightest-same (keyPlace (keysOf count places)) (entryOf places) keyWeight count
+                (byIndex cs) (choiceIn (wordOf cs)) (keysOf-place count places) (λ i lt. sym (word-choice cs i (omega arith)))
                 (rw sized at (least-lightest (keysOf count places) (omega (arith, sized)) e));
           })
 

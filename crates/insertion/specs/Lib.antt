@@ -1,7 +1,3 @@
-pub mod Entry
-pub mod EntryLaws
-pub mod Keys
-pub mod KeysLaws
 pub mod WordWeight
 pub mod WordWeightLaws
 pub mod Answer

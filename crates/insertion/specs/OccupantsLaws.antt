@@ -16,10 +16,11 @@ use Rattle.lists.specs.First.{first}
 use Rattle.lists.specs.FirstLaws.{first-some, first-found, first-out}
 use Rattle.lists.specs.UpTo.{upTo}
 use Rattle.lists.specs.UpToLaws.{upTo-length, upTo-at}
-use Rattle.filling.specs.Insertion.{Separate, Taken}
+use Rattle.filling.specs.Separate.{Separate}
+use Rattle.filling.specs.Insertion.{Taken}
 use Rattle.bits.specs.WordBits.{choiceIn}
-use Rattle.insertion.specs.Entry.{entryOf, Candidates}
-use Rattle.insertion.specs.Occupants.{cellOf, keyIn, occupantsOf, Occupied}
+use Rattle.places.specs.Array.{entryOf, Candidates}
+use Rattle.insertion.specs.Occupants.{cellOf, placeTaken, keyIn, occupantsOf, Occupied}
 
 -- The first v of the cells are 0.
 pub record Cleared (v : ℕ) (cells : List ℕ) : Type 0 where
@@ -83,18 +84,18 @@ module _ (places : List ℕ) where
 
     -- A place that no other key takes is free.
     pub separate-free : (all : ℕ) → count < all → Separate (entryOf places) all (choiceIn word)
-        → getD cells (entryOf places count (choiceIn word count)) 0 ≡ 0
-    separate-free all more apart = go (getD cells (entryOf places count (choiceIn word count)) 0) refl
+        → getD cells (placeTaken places word count) 0 ≡ 0
+    separate-free all more apart = go (getD cells (placeTaken places word count) 0) refl
       where
-        go : (x : ℕ) → getD cells (entryOf places count (choiceIn word count)) 0 ≡ x → x ≡ 0
+        go : (x : ℕ) → getD cells (placeTaken places word count) 0 ≡ x → x ≡ 0
         go zero e = refl
         go (suc o) e =
-            let (lt, at) = old .who (entryOf places count (choiceIn word count)) o (omega (arith, e)) in
+            let (lt, at) = old .who (placeTaken places word count) o (omega (arith, e)) in
             let clash = apart o count (omega arith) (omega arith) at in
             absurd (omega arith)
 
     -- One key more at a free place.
-    pub occupied-more : (v : ℕ) → entryOf places count (choiceIn word count) ≡ v → v < groupMax → getD cells v 0 ≡ 0
+    pub occupied-more : (v : ℕ) → placeTaken places word count ≡ v → v < groupMax → getD cells v 0 ≡ 0
         → Occupied places word (count + 1) (set cells v (count + 1))
     occupied-more v at below free = record {
       size = length-set cells v (count + 1) ∙ old .size;
@@ -105,16 +106,14 @@ module _ (places : List ℕ) where
         here : getD (set cells v (count + 1)) v 0 ≡ count + 1
         here = getD-set-same cells v (count + 1) 0 (omega (arith, old .size))
 
-        sits′ : (i : ℕ) → i < count + 1 → Dec (i ≡ count)
-            → getD (set cells v (count + 1)) (entryOf places i (choiceIn word i)) 0 ≡ i + 1
+        sits′ : (i : ℕ) → i < count + 1 → Dec (i ≡ count) → getD (set cells v (count + 1)) (placeTaken places word i) 0 ≡ i + 1
         sits′ i lt (yes e) = rw (e, at) here
         sits′ i lt (no n) =
             let sat = old .sits i (omega (arith, n)) in
-            let apart : entryOf places i (choiceIn word i) ≡ v → ⊥ = λ z. omega (arith, rw z at sat) in
-            getD-set-other cells v (entryOf places i (choiceIn word i)) (count + 1) 0 apart ∙ sat
+            let apart : placeTaken places word i ≡ v → ⊥ = λ z. omega (arith, rw z at sat) in
+            getD-set-other cells v (placeTaken places word i) (count + 1) 0 apart ∙ sat
 
-        who′ : (u o : ℕ) → getD (set cells v (count + 1)) u 0 ≡ o + 1 → Dec (u ≡ v)
-            → (o < count + 1) × (entryOf places o (choiceIn word o) ≡ u)
+        who′ : (u o : ℕ) → getD (set cells v (count + 1)) u 0 ≡ o + 1 → Dec (u ≡ v) → (o < count + 1) × (placeTaken places word o ≡ u)
         who′ u o e (yes z) =
             let own : o ≡ count = omega (arith, here, rw z at e) in
             (omega arith, rw (own, z) at)
@@ -134,13 +133,13 @@ module _ (places : List ℕ) where
       where
         go : (v x : ℕ) → getD cells v 0 ≡ x → getD cells v 0 ≡ cellOf (keyIn places word count v)
         go v zero e =
-            rw (first-out (λ i. eqb (entryOf places i (choiceIn word i)) v) count (λ j lt.
-            ne-eqb (entryOf places j (choiceIn word j)) v (λ at. free-untaken v e (j, lt, at)))) e
+            rw (first-out (λ i. eqb (placeTaken places word i) v) count (λ j lt.
+            ne-eqb (placeTaken places word j) v (λ at. free-untaken v e (j, lt, at)))) e
         go v (suc o) e =
             let (lt, at) = old .who v o (omega (arith, e)) in
-            rw (first-found (λ i. eqb (entryOf places i (choiceIn word i)) v) count o lt
-            (eq-eqb (entryOf places o (choiceIn word o)) v at) (λ j below.
-            ne-eqb (entryOf places j (choiceIn word j)) v (λ z. omega (arith, e, rw z at (old .sits j (omega arith)))))) (omega (arith, e))
+            rw (first-found (λ i. eqb (placeTaken places word i) v) count o lt
+            (eq-eqb (placeTaken places word o) v at) (λ j below.
+            ne-eqb (placeTaken places word j) v (λ z. omega (arith, e, rw z at (old .sits j (omega arith)))))) (omega (arith, e))
 
   -- The occupants of keys of which no two take one place are such cells.
   pub occupied-of : {word count : ℕ} → Candidates places count → Separate (entryOf places) count (choiceIn word)
@@ -149,33 +148,31 @@ module _ (places : List ℕ) where
   occupied-of {word} {count} all apart = record {
     size = upTo-length groupMax cell;
     sits = λ i lt.
-        upTo-at groupMax cell 0 (entryOf places i (choiceIn word i)) (all .below i lt (choiceIn word i)) ∙ sits′ i lt;
+        upTo-at groupMax cell 0 (placeTaken places word i) (all .below i lt (choiceIn word i)) ∙ sits′ i lt;
     who = λ v o e. who′ v o (decLt v groupMax) e;
   }
     where
       test : ℕ → ℕ → Bool
-      test v i = eqb (entryOf places i (choiceIn word i)) v
+      test v i = eqb (placeTaken places word i) v
 
       cell : ℕ → ℕ
       cell v = cellOf (keyIn places word count v)
 
-      sits′ : (i : ℕ) → i < count → cell (entryOf places i (choiceIn word i)) ≡ i + 1
+      sits′ : (i : ℕ) → i < count → cell (placeTaken places word i) ≡ i + 1
       sits′ i lt =
-          rw (first-found (test (entryOf places i (choiceIn word i))) count i lt
-          (eq-eqb (entryOf places i (choiceIn word i)) (entryOf places i (choiceIn word i)) refl)
-          (λ j below. ne-eqb (entryOf places j (choiceIn word j)) (entryOf places i (choiceIn word i)) (λ z.
+          rw (first-found (test (placeTaken places word i)) count i lt
+          (eq-eqb (placeTaken places word i) (placeTaken places word i) refl)
+          (λ j below. ne-eqb (placeTaken places word j) (placeTaken places word i) (λ z.
           omega (arith, apart j i (omega arith) lt z))))
 
-      found : (v o : ℕ) (f : Option ℕ) → keyIn places word count v ≡ f → cellOf f ≡ o + 1
-          → (o < count) × (entryOf places o (choiceIn word o) ≡ v)
+      found : (v o : ℕ) (f : Option ℕ) → keyIn places word count v ≡ f → cellOf f ≡ o + 1 → (o < count) × (placeTaken places word o ≡ v)
       found v o none e z = absurd (omega arith)
       found v o (some i) e z =
           let at = first-some (test v) count e in
           let same : i ≡ o = omega arith in
-          rw (← same) (at .below, eqb-true (entryOf places i (choiceIn word i)) v (at .holds))
+          rw (← same) (at .below, eqb-true (placeTaken places word i) v (at .holds))
 
-      who′ : (v o : ℕ) → Dec (v < groupMax) → getD (upTo groupMax cell) v 0 ≡ o + 1
-          → (o < count) × (entryOf places o (choiceIn word o) ≡ v)
+      who′ : (v o : ℕ) → Dec (v < groupMax) → getD (upTo groupMax cell) v 0 ≡ o + 1 → (o < count) × (placeTaken places word o ≡ v)
       who′ v o (yes lt) e = found v o (keyIn places word count v) refl (sym (upTo-at groupMax cell 0 v lt) ∙ e)
       who′ v o (no n) e =
           let past : length (upTo groupMax cell) ≤ v = omega (arith, n, upTo-length groupMax cell) in

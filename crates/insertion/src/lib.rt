@@ -4,6 +4,7 @@ mod weight;
 use crate::weight::lighter;
 use bits::choice_at;
 use bits::toggled;
+use refusal::MEMBER_CELLS;
 ghost use mathlib.Core.Path.{_≡_};
 ghost use mathlib.Core.Bool.{true, false};
 ghost use mathlib.Core.Option.{some, Option·map};
@@ -13,16 +14,13 @@ ghost use Rattle.refusal.specs.Limits.{groupMax};
 ghost use Rattle.filling.specs.Least.{least};
 ghost use Rattle.filling.specs.Word.{wordOf};
 ghost use Rattle.filling.specs.Weight.{keyWeight};
-ghost use Rattle.filling.specs.Insertion.{Separate, Lightest};
+ghost use Rattle.filling.specs.Separate.{Separate};
+ghost use Rattle.filling.specs.Insertion.{Lightest};
 ghost use Rattle.bits.specs.WordBits.{choiceIn};
-ghost use Rattle.insertion.specs.Entry.{entryOf, Candidates};
-ghost use Rattle.insertion.specs.Keys.{keysOf};
+ghost use Rattle.places.specs.Array.{entryOf, Candidates, keysOf};
 ghost use Rattle.insertion.specs.Answer.{insertedMeaning};
-ghost use Rattle.insertion.specs.Occupants.{occupantsOf, occupantsAfter, Occupied};
+ghost use Rattle.insertion.specs.Occupants.{placeTaken, occupantsOf, occupantsAfter, Occupied};
 ghost use Rattle.insertion.specs.Inserted.{InsertedIs};
-
-// A cell for each place of a group of the greatest size: 0, or one more than the index of the key that has the place.
-pub const OCCUPANT_CELLS: usize = refusal::GROUP_MAX as usize;
 
 // The word with one key more, or that no sequence fills with it.
 pub enum Inserted {
@@ -30,14 +28,9 @@ pub enum Inserted {
     Nothing,
 }
 
-// The word of the least sequence with key k, from that without it and the occupants under that; the cells become those under the
-// word answered, and stay where there is none.
-pub fn with_key(
-    places: &[u32],
-    word: u32,
-    k: u32,
-    occupants: &mut [u32; OCCUPANT_CELLS],
-) -> Inserted
+// The word of the least sequence with key k, from that without it and the occupants under that: for each place 0, or one more than
+// the index of the key that has it. The cells become those under the word answered, and stay where there is none.
+pub fn with_key(places: &[u32], word: u32, k: u32, occupants: &mut [u32; MEMBER_CELLS]) -> Inserted
     requires { ⌜ (k < groupMax) × Candidates (now places) (k + 1) × (some word ≡ Option·map wordOf (least (keysOf k (now places)))) ⌝ }
     requires { ⌜ now occupants ≡ occupantsOf (now places) word k ⌝ }
     ensures answer { λ r. ⌜ insertedMeaning r ≡ Option·map wordOf (least (keysOf (k + 1) (now (places .entry)))) ⌝ }
@@ -49,7 +42,7 @@ pub fn with_key(
         return Inserted::Word(word);
     }
     // With its first place taken, key k could have it only if a key before it moved, and that weighs more than its second place.
-    let second = places[OCCUPANT_CELLS + k as usize] as usize;
+    let second = places[MEMBER_CELLS + k as usize] as usize;
     if occupants[second] == 0 {
         occupants[second] = k + 1;
         return Inserted::Word(bits::with_bit(word, k));
@@ -111,17 +104,17 @@ fn other_place(places: &[u32], i: u32, place: u32) -> u32
     requires { ⌜ place ≤ entryOf (now places) i false + entryOf (now places) i true ⌝ }
     ensures answer { λ r. ⌜ r ≡ entryOf (now (places .entry)) i false + entryOf (now (places .entry)) i true - place ⌝ }
 {
-    places[i as usize] + places[OCCUPANT_CELLS + i as usize] - place
+    places[i as usize] + places[MEMBER_CELLS + i as usize] - place
 }
 
 // The occupants of the first `count` keys under a word.
-fn occupy(places: &[u32], word: u32, count: u32, occupants: &mut [u32; OCCUPANT_CELLS])
+fn occupy(places: &[u32], word: u32, count: u32, occupants: &mut [u32; MEMBER_CELLS])
     requires { ⌜ (count ≤ groupMax) × Candidates (now places) count × (length (now occupants) ≡ groupMax) ⌝ }
     requires { ⌜ Separate (entryOf (now places)) count (choiceIn word) ⌝ }
     ensures cells { λ _. ⌜ now (occupants .exit) ≡ occupantsOf (now (places .entry)) word count ⌝ }
 {
     let mut v = 0;
-    while v < OCCUPANT_CELLS {
+    while v < MEMBER_CELLS {
         occupants[v] = 0;
         v += 1;
     }
@@ -136,10 +129,10 @@ fn occupy(places: &[u32], word: u32, count: u32, occupants: &mut [u32; OCCUPANT_
 // The place that key i takes under the word's choice.
 fn place_taken(places: &[u32], word: u32, i: u32) -> u32
     requires { ⌜ (i < groupMax) × (length (now places) ≡ 2 * groupMax) ⌝ }
-    ensures answer { λ r. ⌜ r ≡ entryOf (now (places .entry)) i (choiceIn word i) ⌝ }
+    ensures answer { λ r. ⌜ r ≡ placeTaken (now (places .entry)) word i ⌝ }
 {
     if choice_at(word, i) == 1 {
-        places[OCCUPANT_CELLS + i as usize]
+        places[MEMBER_CELLS + i as usize]
     } else {
         places[i as usize]
     }

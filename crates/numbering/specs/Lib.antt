@@ -3,6 +3,7 @@ pub mod MembersLaws
 pub mod Number
 pub mod NumberLaws
 pub mod Parts
+pub mod PartsLaws
 pub mod GroupSlots
 pub mod SlotsLaws
 pub mod Building

@@ -18,7 +18,7 @@ use Rattle.group.specs.AscendingLaws.{ascending-above}
 use Rattle.numbering.specs.Members.{select, members, startOf}
 
 -- A tag that passes the test is selected,
-pub select-occurs : (test : ℕ → Bool) (xs : List ℕ) (x : ℕ) → occurs x xs ≡ true → test x ≡ true → occurs x (select test xs) ≡ true
+select-occurs : (test : ℕ → Bool) (xs : List ℕ) (x : ℕ) → occurs x xs ≡ true → test x ≡ true → occurs x (select test xs) ≡ true
 unfolding select
 select-occurs test [] x m e = m
 select-occurs test (y ∷ ys) x m e = go (test y) refl (occurs-cases x y ys m) (λ n. select-occurs test ys x n e)
@@ -119,18 +119,11 @@ select-ascending test (x ∷ xs) up = go (test x) (select-ascending test xs (λ 
     go true rest (suc i) lt = rest i (omega arith)
     go false rest i lt = rest i lt
 
--- A listed tag is a member of its group, and a member is a listed tag of the group.
+-- A listed tag is a member of its group.
 pub members-own : (groups : ℕ) (tags : List ℕ) (t : ℕ) → occurs t tags ≡ true → occurs t (members groups (groupOf groups t) tags) ≡ true
 unfolding members
 members-own groups tags t m =
     select-occurs (λ u. eqb (groupOf groups u) (groupOf groups t)) tags t m (eq-eqb (groupOf groups t) (groupOf groups t) refl)
-
-pub member-group : (groups g : ℕ) (tags : List ℕ) (t : ℕ)
-    → occurs t (members groups g tags) ≡ true → (occurs t tags ≡ true) × (groupOf groups t ≡ g)
-unfolding members
-member-group groups g tags t m =
-    let (listed, e) = occurs-select (λ u. eqb (groupOf groups u) g) tags t m in
-    (listed, eqb-true (groupOf groups t) g e)
 
 pub members-distinct : (groups g : ℕ) (tags : List ℕ) → distinct tags ≡ true → distinct (members groups g tags) ≡ true
 unfolding members

@@ -25,17 +25,22 @@ module _ (tags : List ℕ) (limit : ℕ) where
     unfolding placingOf placingChecks limitCheck inOrder met metAt
     placing-large large = rw (legal, lt-ltb groupMax (length tags) large)
 
-    module _ (small : length tags ≤ groupMax) where
-      pub placing-descends : {i : ℕ} → ascendingCheck tags .1 ≡ some i → placingOf tags limit ≡ refused 6 i
-      unfolding placingOf placingChecks limitCheck ascendingCheck inOrder met metAt
-      placing-descends e = rw (legal, le-ltb groupMax (length tags) small, e)
+    pub placing-descends : {i : ℕ} → length tags ≤ groupMax → ascendingCheck tags .1 ≡ some i → placingOf tags limit ≡ refused 6 i
+    unfolding placingOf placingChecks limitCheck ascendingCheck inOrder met metAt
+    placing-descends small e = rw (legal, le-ltb groupMax (length tags) small, e)
 
-      module _ (up : ascendingCheck tags .1 ≡ none) where
-        pub placing-unseeded : leastSeed tags limit ≡ none → placingOf tags limit ≡ refused 7 0
-        unfolding placingOf placingChecks limitCheck ascendingCheck inOrder met metAt isSome
-        placing-unseeded e = rw (legal, le-ltb groupMax (length tags) small, up, e)
+-- A group and a limit that pass the checks before the last.
+pub record Placeable (tags : List ℕ) (limit : ℕ) : Type 0 where
+  pub limit-legal : outside 1 limitMax limit ≡ false
+  pub few : length tags ≤ groupMax
+  pub ascending : ascendingCheck tags .1 ≡ none
 
-        pub placing-seeded : {s : ℕ} → leastSeed tags limit ≡ some s
-            → placingOf tags limit ≡ answered (record { seed = s; word = wordOf (taken tags s) })
-        unfolding placingOf placingChecks limitCheck ascendingCheck inOrder met metAt isSome placementOf
-        placing-seeded e = rw (legal, le-ltb groupMax (length tags) small, up, e)
+module _ {tags : List ℕ} {limit : ℕ} (p : Placeable tags limit) where
+  pub placing-unseeded : leastSeed tags limit ≡ none → placingOf tags limit ≡ refused 7 0
+  unfolding placingOf placingChecks limitCheck ascendingCheck inOrder met metAt isSome
+  placing-unseeded e = rw (p .limit-legal, le-ltb groupMax (length tags) (p .few), p .ascending, e)
+
+  pub placing-seeded : {s : ℕ} → leastSeed tags limit ≡ some s
+      → placingOf tags limit ≡ answered (record { seed = s; word = wordOf (taken tags s) })
+  unfolding placingOf placingChecks limitCheck ascendingCheck inOrder met metAt isSome placementOf
+  placing-seeded e = rw (p .limit-legal, le-ltb groupMax (length tags) (p .few), p .ascending, e)

@@ -12,6 +12,7 @@ use Rattle.lists.specs.SearchLaws.{Searched, searched-start, searched-turn, sea
 use Rattle.group.specs.Placing.{Placement, placingOf}
 use Rattle.lists.specs.UpTo.{upTo}
 use Rattle.numbering.specs.Parts.{partStart, partOf}
+use Rattle.numbering.specs.PartsLaws.{part-is}
 use Rattle.plan.specs.Plan.{unseeded, partSeed, partWord, cellsPlanned, seedsPlanned, wordsPlanned, Plannable}
 use Rattle.plan.specs.PlanLaws.{placed-seed, refused-seedless, planned-more}
 
@@ -35,26 +36,18 @@ planned-start groups ordered ends limit seeds₀ words₀ = record {
 
 module _ {groups limit : ℕ} {ordered ends seeds₀ words₀ seeds words : List ℕ} {start g : ℕ} (p : Plannable groups ordered ends limit)
     (done : PlannedUpTo groups ordered ends limit seeds₀ words₀ seeds words start g) (lt : g < groups) where
-  -- The slice that is handed over is the group's part,
-  pub part-is : take (getD ends g 0 - start) (drop start ordered) ≡ partOf ordered ends g
-  unfolding partOf
-  part-is = rw (done .start-is)
-
-  -- which begins no later than it ends, and ends within the tags.
-  pub part-follows : start ≤ getD ends g 0
-  part-follows = rw (done .start-is) (p .parts .follow g lt)
-
-  pub part-inside : getD ends g 0 ≤ length ordered
-  part-inside = p .parts .inside g lt
+  -- The slice that is handed over is the group's part.
+  abbrev part : List ℕ
+  part = take (getD ends g 0 - start) (drop start ordered)
 
   -- Where placing answers, its seed and its word are the group's,
-  pub planned-turn : {placement : Placement} {part : List ℕ} → part ≡ partOf ordered ends g → placingOf part limit ≡ answered placement
-      → g < length seeds₀ → g < length words₀
+  pub planned-turn : {placement : Placement} → placingOf part limit ≡ answered placement → g < length seeds₀ → g < length words₀
       → PlannedUpTo groups ordered ends limit seeds₀ words₀ (set seeds g (placement .seed)) (set words g (placement .word))
       (getD ends g 0) (g + 1)
   unfolding unseeded isSome partStart partSeed partWord
-  planned-turn {placement} is e seed-cell word-cell =
-      let (found, placed) = placed-seed (partOf ordered ends g) limit (p .limit-legal) (p .few g lt) (p .ascending g lt) (rw is at e) in
+  planned-turn {placement} e seed-cell word-cell =
+      let own = rw (part-is (p .parts) g (done .start-is)) at e in
+      let (found, placed) = placed-seed (partOf ordered ends g) limit (p .limit-legal) (p .few g lt) (p .ascending g lt) own in
       record {
         searched = searched-turn (unseeded ordered ends limit) 0 groups g (done .searched) lt (rw found);
         start-is = rw (add-one g);
@@ -67,11 +60,12 @@ module _ {groups limit : ℕ} {ordered ends seeds₀ words₀ seeds words : List
       }
 
   -- and where it refuses, this is the lowest group without one.
-  pub planned-without : {number place : ℕ} {part : List ℕ} → part ≡ partOf ordered ends g → placingOf part limit ≡ refused number place
+  pub planned-without : {number place : ℕ} → placingOf part limit ≡ refused number place
       → first (unseeded ordered ends limit) groups ≡ some g
   unfolding unseeded isSome
-  planned-without is e =
-      let nothing = refused-seedless (partOf ordered ends g) limit (p .limit-legal) (p .few g lt) (p .ascending g lt) (rw is at e) in
+  planned-without e =
+      let own = rw (part-is (p .parts) g (done .start-is)) at e in
+      let nothing = refused-seedless (partOf ordered ends g) limit (p .limit-legal) (p .few g lt) (p .ascending g lt) own in
       searched-found (unseeded ordered ends limit) 0 groups g (done .searched) lt (rw nothing)
 
 -- When all groups are planned, each has its seed and its word.

@@ -8,7 +8,7 @@ use native.Mathlib.Numerals.{add-one}
 use native.Mathlib.Omega.{arith}
 use lib.ListN.{length, getD, set, drop, length-append, length-drop, List·getD-append}
 use lib.Seq.{drop-cons, set-at, append-snoc}
-use Rattle.refusal.specs.Limits.{groupMax, limitMax, outside}
+use Rattle.refusal.specs.Limits.{groupMax, limitMax}
 use Rattle.refusal.specs.LimitsLaws.{outside-not}
 use Rattle.refusal.specs.Outcome.{answered, refused}
 use Rattle.group.specs.Group.{leastSeed}
@@ -17,13 +17,17 @@ use Rattle.group.specs.Ascending.{Ascending}
 use Rattle.group.specs.AscendingLaws.{check-of-ascending}
 use Rattle.lists.specs.UpTo.{upTo}
 use Rattle.lists.specs.UpToLaws.{upTo-length, upTo-at, upTo-more}
-use Rattle.placing.specs.PlacingLaws.{placing-unseeded, placing-seeded}
+use Rattle.placing.specs.PlacingLaws.{Placeable, placing-unseeded, placing-seeded}
 use Rattle.plan.specs.Plan.{cellsPlanned}
 
 -- Placing a part that planning is given is refused for want of a seed only.
 module _ (part : List ℕ) (limit : ℕ) (legal : (1 ≤ limit) × (limit ≤ limitMax)) (few : length part ≤ groupMax) (up : Ascending part) where
-  legal-limit : outside 1 limitMax limit ≡ false
-  legal-limit = outside-not 1 limitMax limit (legal .0) (legal .1)
+  placeable : Placeable part limit
+  placeable = record {
+    limit-legal = outside-not 1 limitMax limit (legal .0) (legal .1);
+    few = few;
+    ascending = check-of-ascending part up;
+  }
 
   pub placed-seed : {placement : Placement} → placingOf part limit ≡ answered placement
       → (leastSeed part limit ≡ some (placement .seed)) × (placementOf part limit ≡ placement)
@@ -33,10 +37,10 @@ module _ (part : List ℕ) (limit : ℕ) (legal : (1 ≤ limit) × (limit ≤ li
       go : (o : Option ℕ) → leastSeed part limit ≡ o
           → (leastSeed part limit ≡ some (placement .seed)) × (placementOf part limit ≡ placement)
       go none f =
-          let r = placing-unseeded part limit legal-limit few (check-of-ascending part up) f in
+          let r = placing-unseeded placeable f in
           absurd (let z : _≡_ {A = ℕ} 0 1 = cc in omega arith)
       go (some s) f =
-          let r = placing-seeded part limit legal-limit few (check-of-ascending part up) f in
+          let r = placing-seeded placeable f in
           let same = sym r ∙ e in
           (f ∙ cc, rw f cc)
 
@@ -46,7 +50,7 @@ module _ (part : List ℕ) (limit : ℕ) (legal : (1 ≤ limit) × (limit ≤ li
       go : (o : Option ℕ) → leastSeed part limit ≡ o → o ≡ none
       go none f = refl
       go (some s) f =
-          let r = placing-seeded part limit legal-limit few (check-of-ascending part up) f in
+          let r = placing-seeded placeable f in
           absurd (let z : _≡_ {A = ℕ} 0 1 = cc in omega arith)
 
 module _ (number : ℕ → ℕ) where

@@ -3,7 +3,7 @@
 use Prim.Native.Nat.{ℕ, zero, suc, _+_, _*_, _-_, _≤_, _<_}
 use mathlib.Core.Path.{_≡_, refl, sym, _∙_, ap}
 use mathlib.Core.Logic.{_≢_}
-use mathlib.Core.Bool.{Bool, true, false, not}
+use mathlib.Core.Bool.{Bool, true, false, not, Bool·not-not}
 use mathlib.Core.List.{List}
 use mathlib.Core.Option.{none, some}
 use native.Mathlib.Decide.{ℕ-discrete}
@@ -16,12 +16,15 @@ use lib.Seq.{getD-set-same, getD-set-other}
 use borrow.Author.Count.{below-more}
 use Rattle.refusal.specs.Limits.{groupMax}
 use Rattle.filling.specs.Filling.{Key, placeBy, Fills}
+use Rattle.filling.specs.Separate.{keyPlace}
+use Rattle.filling.specs.WordLaws.{other-number}
 use Rattle.filling.specs.Eviction.{State, placeUnder, goal, occupant, start, seatKey, evictKey, Reached, started, seats, evicts, sequenceOf}
-use Rattle.filling.specs.EvictionLaws.{Has, replicate-zero, reached-choice, reached-among, reached-who, reached-cells, reached-goal, gives-up-none, seated-fills}
+use Rattle.filling.specs.EvictionLaws.{Has, replicate-zero, reached-choice, reached-among, reached-who, reached-cells, reached-goal}
+use Rattle.filling.specs.EvictionLaws.{gives-up-none, seated-fills}
 use Rattle.group.specs.Group.{groupUnder, leastSeed}
 use Rattle.group.specs.GroupLaws.{NoneFills, group-size, group-below, leastSeed-only, leastSeed-out}
-use Rattle.candidates.specs.Array.{laidInto}
-use Rattle.candidates.specs.ArrayLaws.{group-cells, group-first, group-second}
+use Rattle.places.specs.Array.{entryOf, laidInto}
+use Rattle.candidates.specs.LaidLaws.{group-cells, group-place}
 use Rattle.seeds.specs.Occupancy.{occupancyOf}
 use Rattle.seeds.specs.OccupancyLaws.{ones-none}
 use Rattle.seeds.specs.Tried.{laidAfter}
@@ -80,17 +83,6 @@ cellOf : List Key → List ℕ → ℕ → ℕ
 cellOf keys choices zero = 0
 cellOf keys choices (suc i) = suc (otherUnder keys choices i)
 
--- The toggled choice leads to the other place, and its other place is the one before.
-toggled-choice : (c : ℕ) → c < 2 → eqb (1 - c) 1 ≡ not (eqb c 1)
-toggled-choice zero lt = refl
-toggled-choice (suc zero) lt = refl
-toggled-choice (suc (suc c)) lt = absurd (omega arith)
-
-twice-toggled : (c : ℕ) → c < 2 → not (eqb (1 - c) 1) ≡ eqb c 1
-twice-toggled zero lt = refl
-twice-toggled (suc zero) lt = refl
-twice-toggled (suc (suc c)) lt = absurd (omega arith)
-
 -- Only the choice of the occupant counts.
 cellOf-same : (keys : List Key) (choices choices′ : List ℕ) (o : ℕ) → ((i : ℕ) → o ≡ i + 1 → getD choices′ i 0 ≡ getD choices i 0)
     → cellOf keys choices o ≡ cellOf keys choices′ o
@@ -142,9 +134,7 @@ record Goes (keys : List Key) (choices : List ℕ) (moving place other : ℕ) : 
 -- The eviction loop: the candidate places are laid out, the state is reached, and the cells match its occupants.
 pub record Turn (tags : List ℕ) (s : ℕ) (places others : List ℕ) (seated place other left : ℕ) : Type 0 where
   pub few : length tags ≤ groupMax
-  before : List ℕ
-  size : length before ≡ 2 * groupMax
-  cells : places ≡ laidInto (groupUnder tags s) before
+  own : (i : ℕ) → i < length tags → (choice : Bool) → entryOf places i choice ≡ keyPlace (groupUnder tags s) i choice
   pub upto : seated ≤ length tags
   pub allowed : left ≤ 2 * seated + 1
   pub room : length others ≡ groupMax
@@ -160,12 +150,10 @@ pub record Turn (tags : List ℕ) (s : ℕ) (places others : List ℕ) (seated p
 pub turn-start : (tags : List ℕ) (s : ℕ) (before : List ℕ) {places : List ℕ} → length before ≡ 2 * groupMax
     → places ≡ laidInto (groupUnder tags s) before
     → length tags ≤ groupMax → Turn tags s places (replicate groupMax 0) 0 (getD places 0 0) (getD places groupMax 0) 1
-unfolding start Matches cellOf placeUnder otherUnder
+unfolding start Matches cellOf placeUnder otherUnder entryOf
 turn-start tags s before {places} size cells few = record {
   few = few;
-  before = before;
-  size = size;
-  cells = cells;
+  own = group-place tags s before few size cells;
   upto = omega arith;
   allowed = omega arith;
   room = length-replicate {A = ℕ} groupMax 0;
@@ -177,8 +165,8 @@ turn-start tags s before {places} size cells few = record {
       started groupMax groupMax (λ i lt choice. omega (arith, group-below tags s i lt choice)) (omega (arith, group-size tags s));
   match = λ v. rw (replicate-zero groupMax v);
   goes = λ some. record {
-    to = group-first tags s before few size cells 0 some;
-    back = group-second tags s before few size cells 0 some;
+    to = group-place tags s before few size cells 0 some false;
+    back = group-place tags s before few size cells 0 some true;
   };
 }
 
@@ -252,9 +240,7 @@ module _
       unfolding seatKey
       seated-next choice two place′ other′ goes = record {
         few = turn .few;
-        before = turn .before;
-        size = turn .size;
-        cells = turn .cells;
+        own = turn .own;
         upto = omega (arith, unseated);
         allowed = omega arith;
         room = length-set others place (other + 1) ∙ turn .room;
@@ -282,32 +268,26 @@ module _
       turn-last all = seated-next 0 (omega arith) place other (λ lt. absurd (omega arith))
 
       module _ (next : seated + 1 < length tags) where
-        first-place : getD places (seated + 1) 0 ≡ placeBy false (getD keys (seated + 1) (0, 0))
-        first-place = group-first tags s (turn .before) (turn .few) (turn .size) (turn .cells) (seated + 1) next
+        pub next-first : entryOf places (seated + 1) false < groupMax
+        next-first =
+            let below = group-below tags s (seated + 1) (omega (arith, group-size tags s)) false in
+            omega (arith, turn .own (seated + 1) next false, turn .few)
 
-        second-place : getD places (groupMax + (seated + 1)) 0 ≡ placeBy true (getD keys (seated + 1) (0, 0))
-        second-place = group-second tags s (turn .before) (turn .few) (turn .size) (turn .cells) (seated + 1) next
-
-        pub next-first : getD places (seated + 1) 0 < groupMax
-        next-first = omega (arith, first-place, group-below tags s (seated + 1) (omega (arith, group-size tags s)) false, turn .few)
-
-        -- The next tag enters at its first place,
-        pub turn-first :
-            Turn tags s places (set others place (other + 1)) (seated + 1)
-            (getD places (seated + 1) 0) (getD places (groupMax + (seated + 1)) 0) (2 * (seated + 1) + 1)
+        -- The next tag enters at its place under a choice.
+        enters : (choice : Bool) (c : ℕ) → c < 2 → eqb c 1 ≡ choice
+            → Turn tags s places (set others place (other + 1)) (seated + 1)
+            (entryOf places (seated + 1) choice) (entryOf places (seated + 1) (not choice)) (2 * (seated + 1) + 1)
         unfolding placeUnder otherUnder
-        turn-first =
-            seated-next 0 (omega arith) (getD places (seated + 1) 0) (getD places (groupMax + (seated + 1)) 0)
-            (λ lt. record { to = rw (entered 0 next) first-place; back = rw (entered 0 next) second-place })
+        enters choice c two is =
+            let own = turn .own (seated + 1) next in
+            seated-next c two (entryOf places (seated + 1) choice) (entryOf places (seated + 1) (not choice))
+            (λ lt. record { to = rw (entered c next, is) (own choice); back = rw (entered c next, is) (own (not choice)) })
 
-        -- or at its second.
-        pub turn-second :
-            Turn tags s places (set others place (other + 1)) (seated + 1)
-            (getD places (groupMax + (seated + 1)) 0) (getD places (seated + 1) 0) (2 * (seated + 1) + 1)
-        unfolding placeUnder otherUnder
-        turn-second =
-            seated-next 1 (omega arith) (getD places (groupMax + (seated + 1)) 0) (getD places (seated + 1) 0)
-            (λ lt. record { to = rw (entered 1 next) second-place; back = rw (entered 1 next) first-place })
+        pub turn-next : (choice : Bool)
+            → Turn tags s places (set others place (other + 1)) (seated + 1)
+            (entryOf places (seated + 1) choice) (entryOf places (seated + 1) (not choice)) (2 * (seated + 1) + 1)
+        turn-next false = enters false 0 (omega arith) refl
+        turn-next true = enters true 1 (omega arith) refl
 
     module _ (full : getD others place 0 ≡ 0 → ⊥) where
       -- The place has an occupant,
@@ -337,9 +317,7 @@ module _
       unfolding evictKey placeUnder otherUnder
       turn-evict further = record {
         few = turn .few;
-        before = turn .before;
-        size = turn .size;
-        cells = turn .cells;
+        own = turn .own;
         upto = turn .upto;
         allowed = omega (arith, turn .allowed);
         room = length-set others place (other + 1) ∙ turn .room;
@@ -355,8 +333,8 @@ module _
             (λ v i n e m. n (reached-who (turn .reached) v i e .place ∙ ap (placeUnder keys (turn .choices)) m ∙ sym (it .place)))
             (turn .match);
         goes = λ lt. record {
-          to = next ∙ rw (here, toggled-choice was two);
-          back = it .place ∙ rw (here, twice-toggled was two);
+          to = next ∙ rw (here, other-number was two);
+          back = it .place ∙ rw (here, other-number was two, Bool·not-not);
         };
       }
         where

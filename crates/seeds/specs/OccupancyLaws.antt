@@ -16,9 +16,9 @@ use Rattle.bits.specs.BitLaws.{bit-zero, bit-same, bit-other, setBit-comm, setB
 use Rattle.lists.specs.Occurs.{occurs}
 use Rattle.filling.specs.Filling.{Key, placeBy, Fills, EachCandidate}
 use Rattle.filling.specs.Touched.{candidatePlaces, once, touched}
-use Rattle.filling.specs.TouchedLaws.{fills-touched, untouched-none}
+use Rattle.filling.specs.TouchedLaws.{untouched-none}
 use Rattle.filling.specs.Word.{choiceNumber}
-use Rattle.candidates.specs.Array.{placesBy}
+use Rattle.places.specs.Array.{placesBy}
 use Rattle.seeds.specs.Occupancy.{occupancy, occupancyOf}
 
 -- Bit x is set exactly where place x is in the list.
@@ -53,10 +53,6 @@ ones-once (p ∷ places) = go (occurs p places) (occupancy-bit places p) (setBit
 pub ones-touched : (keys : List Key) → ones (occupancyOf keys) ≡ touched keys
 unfolding occupancyOf touched
 ones-touched keys = ones-once (candidatePlaces keys)
-
--- Keys that some sequence fills have at least as many ones in their occupancy word, however many places there are.
-pub fills-ones : (keys : List Key) (cs : List Bool) → Fills keys cs → length keys ≤ ones (occupancyOf keys)
-fills-ones keys cs f = omega (arith, ones-touched keys, fills-touched keys cs f)
 
 -- THE EARLY DROP: where n keys on n places have an occupancy word with another number of ones than n, nothing fills.
 pub ones-none : (n : ℕ) (keys : List Key) → length keys ≡ n → EachCandidate (λ x. x < n) keys → (ones (occupancyOf keys) ≡ n → ⊥)

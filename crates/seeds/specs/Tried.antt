@@ -3,7 +3,7 @@ use Prim.Native.Nat.{ℕ, zero, suc}
 use mathlib.Core.List.{List}
 use mathlib.Core.Option.{Option, none, some}
 use Rattle.group.specs.Group.{groupUnder}
-use Rattle.candidates.specs.Array.{laidInto}
+use Rattle.places.specs.Array.{laidInto}
 
 -- How many seeds the search tries: those up to the one found, or all below the limit.
 unfoldable pub tried : Option ℕ → ℕ → ℕ

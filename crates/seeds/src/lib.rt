@@ -7,7 +7,7 @@ ghost use Prim.Native.Nat.{_*_, _≤_};
 ghost use lib.ListN.{length};
 ghost use Rattle.refusal.specs.Limits.{groupMax, limitMax, seedMax};
 ghost use Rattle.group.specs.Group.{groupUnder, leastSeed};
-ghost use Rattle.candidates.specs.Array.{laidInto};
+ghost use Rattle.places.specs.Array.{laidInto};
 ghost use Rattle.seeds.specs.Answer.{foundMeaning};
 ghost use Rattle.seeds.specs.Occupancy.{occupancyOf};
 ghost use Rattle.seeds.specs.Tried.{tried, laidAfter};
@@ -18,46 +18,17 @@ pub enum Found {
     Nothing,
 }
 
-// Each number up to 24, as one of 32 bits.
-const SIZES: [u32; 25] = [
-    0,
-    1,
-    2,
-    3,
-    4,
-    5,
-    6,
-    7,
-    8,
-    9,
-    10,
-    11,
-    12,
-    13,
-    14,
-    15,
-    16,
-    17,
-    18,
-    19,
-    20,
-    21,
-    22,
-    23,
-    24,
-];
-
-// The number of tags of a group. Read from a table, it is known to the compiler as a number of 32 bits, which it needs to hash several
-// tags at once.
+// The number of tags of a group. The remainder changes nothing, and tells the compiler that it is a number of 32 bits, which it needs to
+// know to hash several tags at once.
 fn size_of(tags: &[u32]) -> u32
     requires { ⌜ length (now tags) ≤ groupMax ⌝ }
     ensures answer { λ r. ⌜ r ≡ length (now (tags .entry)) ⌝ }
 {
-    SIZES[tags.len()]
+    (tags.len() % 4294967296) as u32
 }
 
 // Lays out the candidate places of n tags under a seed, and answers the occupancy word.
-fn lay_out(tags: &[u32], n: u32, seed: u32, places: &mut [u32; candidates::PLACE_CELLS]) -> u32
+fn lay_out(tags: &[u32], n: u32, seed: u32, places: &mut [u32; places::PLACE_CELLS]) -> u32
     requires { ⌜ (length (now tags) ≤ groupMax) × (n ≡ length (now tags)) × (seed ≤ seedMax) × (length (now places) ≡ 2 * groupMax) ⌝ }
     ensures answer { λ r. ⌜ r ≡ occupancyOf (groupUnder (now (tags .entry)) seed) ⌝ }
     ensures cells { λ r. ⌜ now (places .exit) ≡ laidInto (groupUnder (now (tags .entry)) seed) (now (places .entry)) ⌝ }
@@ -68,14 +39,14 @@ fn lay_out(tags: &[u32], n: u32, seed: u32, places: &mut [u32; candidates::PLACE
     let mut i = 0;
     while i < tags.len() {
         first = bits::with_bit(first, places[i]);
-        second = bits::with_bit(second, places[candidates::TAG_CELLS + i]);
+        second = bits::with_bit(second, places[refusal::MEMBER_CELLS + i]);
         i += 1;
     }
     first | second
 }
 
 // The least seed below `limit` under which some choice sequence fills the group; the candidate places under it stay in the cells.
-pub fn least_seed(tags: &[u32], limit: u32, places: &mut [u32; candidates::PLACE_CELLS]) -> Found
+pub fn least_seed(tags: &[u32], limit: u32, places: &mut [u32; places::PLACE_CELLS]) -> Found
     requires { ⌜ (length (now tags) ≤ groupMax) × (limit ≤ limitMax) × (length (now places) ≡ 2 * groupMax) ⌝ }
     ensures answer { λ r. ⌜ foundMeaning r ≡ leastSeed (now (tags .entry)) limit ⌝ }
     ensures cells { λ r. ⌜ now (places .exit) ≡ laidAfter (now (tags .entry)) (tried (foundMeaning r) limit) (now (places .entry)) ⌝ }
@@ -94,10 +65,10 @@ pub fn least_seed(tags: &[u32], limit: u32, places: &mut [u32; candidates::PLACE
         }
         // For each place 0 where it is free, otherwise one more than the other place of the tag that has it. Zeroed for each seed that is
         // not dropped: its insertion begins anew.
-        let mut others = [0u32; candidates::TAG_CELLS];
+        let mut others = [0u32; refusal::MEMBER_CELLS];
         let mut seated: u32 = 0;
         let mut place = places[0];
-        let mut other = places[candidates::TAG_CELLS];
+        let mut other = places[refusal::MEMBER_CELLS];
         let mut left: u32 = 1;
         // One turn: the moving tag, inserted or evicted last, takes its place.
         'evict: loop {
@@ -111,7 +82,7 @@ pub fn least_seed(tags: &[u32], limit: u32, places: &mut [u32; candidates::PLACE
                 if seated < n {
                     // The next tag goes to its second place where its first is taken.
                     place = places[seated as usize];
-                    other = places[candidates::TAG_CELLS + seated as usize];
+                    other = places[refusal::MEMBER_CELLS + seated as usize];
                     if others[place as usize] != 0 {
                         let first = place;
                         place = other;

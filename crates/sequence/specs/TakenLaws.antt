@@ -13,12 +13,6 @@ use Rattle.group.specs.Group.{groupUnder, taken}
 use Rattle.group.specs.GroupLaws.{taken-unique}
 use Rattle.sequence.specs.Answer.{choicesMeaning}
 use Rattle.sequence.specs.declared.Choices.{Choices}
-use Rattle.sequence.specs.declared.Choices.the-variants.{Word, Nothing}
-
--- An answer is what it means.
-answer-word : (r : Choices) {word : ℕ} → choicesMeaning r ≡ some word → r ≡ Word word
-answer-word (Word word) e = cc
-answer-word Nothing e = cc
 
 module _ (tags : List ℕ) (seed : ℕ) where
   -- The least sequence is the one taken.
@@ -28,9 +22,9 @@ module _ (tags : List ℕ) (seed : ℕ) where
 
   module _ (r : Choices) (answer : choicesMeaning r ≡ Option·map wordOf (least (groupUnder tags seed))) where
     -- Where something fills, the word answered is that of the sequence taken.
-    pub word-taken : (cs : List Bool) → Fills (groupUnder tags seed) cs → r ≡ Word (wordOf (taken tags seed))
+    pub word-taken : (cs : List Bool) → Fills (groupUnder tags seed) cs → choicesMeaning r ≡ some (wordOf (taken tags seed))
     word-taken cs f = go (least (groupUnder tags seed)) refl
       where
-        go : (o : Option (List Bool)) → least (groupUnder tags seed) ≡ o → r ≡ Word (wordOf (taken tags seed))
+        go : (o : Option (List Bool)) → least (groupUnder tags seed) ≡ o → choicesMeaning r ≡ some (wordOf (taken tags seed))
         go none e = absurd (least-none (groupUnder tags seed) e cs f)
-        go (some ds) e = answer-word r (answer ∙ rw (e, least-taken e))
+        go (some ds) e = answer ∙ rw (e, least-taken e)

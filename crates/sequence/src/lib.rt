@@ -8,9 +8,8 @@ ghost use Prim.Native.Nat.{_≤_};
 ghost use Rattle.refusal.specs.Limits.{groupMax};
 ghost use Rattle.filling.specs.Least.{least};
 ghost use Rattle.filling.specs.Word.{wordOf};
-ghost use Rattle.insertion.specs.Entry.{Candidates};
+ghost use Rattle.places.specs.Array.{Candidates, keysOf};
 ghost use Rattle.sequence.specs.Answer.{choicesMeaning};
-ghost use Rattle.insertion.specs.Keys.{keysOf};
 
 // The choice word of the least sequence that fills, or that nothing does.
 pub enum Choices {
@@ -24,7 +23,7 @@ pub fn least_choices(places: &[u32], count: u32) -> Choices
     requires { ⌜ (count ≤ groupMax) × Candidates (now places) count ⌝ }
     ensures answer { λ r. ⌜ choicesMeaning r ≡ Option·map wordOf (least (keysOf count (now (places .entry)))) ⌝ }
 {
-    let mut occupants = [0u32; insertion::OCCUPANT_CELLS];
+    let mut occupants = [0u32; refusal::MEMBER_CELLS];
     let mut word: u32 = 0;
     let mut k: u32 = 0;
     while k < count {

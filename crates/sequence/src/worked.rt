@@ -8,9 +8,9 @@ ghost use mathlib.Core.Path.{_≡_};
 pub fn word_of_two_fillings() -> u32
     ensures answer { λ r. ⌜ r ≡ 2 ⌝ }
 {
-    let mut places = [0u32; 2 * insertion::OCCUPANT_CELLS];
-    places[insertion::OCCUPANT_CELLS] = 1;
-    places[insertion::OCCUPANT_CELLS + 1] = 1;
+    let mut places = [0u32; places::PLACE_CELLS];
+    places[refusal::MEMBER_CELLS] = 1;
+    places[refusal::MEMBER_CELLS + 1] = 1;
     match least_choices(&places, 2) {
         Choices::Word(word) => word,
         Choices::Nothing => 0,

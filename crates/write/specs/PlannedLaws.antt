@@ -7,7 +7,7 @@ use lib.ListN.{length, drop, length-append, List·getD-append}
 use Rattle.image.specs.Sheet.{bytesOf}
 use Rattle.numbering.specs.Parts.{partStart}
 use Rattle.arrange.specs.Arrange.{allSlots}
-use Rattle.arrange.specs.PartsLaws.{start-inside}
+use Rattle.numbering.specs.PartsLaws.{start-inside}
 use Rattle.arrange.specs.SlotsLaws.{slots-length}
 use Rattle.write.specs.Stated.{statedSheet, Writable}
 use Rattle.write.specs.StatedLaws.{bytes-agree}

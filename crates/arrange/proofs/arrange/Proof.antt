@@ -1,18 +1,10 @@
 -- `arrange::arrange` meets its contract: after g turns the cells begin with the slots of the first g groups, and the others are as
 -- they were. Assumes nothing.
 use borrow.Author.Needs.{needs}
-use Prim.Native.Nat.{_-_}
-use Rattle.arrange.proofs.Slots.{
-  Filled,
-  filled-start,
-  filled-length,
-  part-follows,
-  part-in-tags,
-  part-in-cells,
-  part-arrangeable,
-  filled-turn,
-  filled-done,
-}
+use Prim.Native.Nat.{_-_, _≤_}
+use native.Mathlib.Omega.{arith}
+use lib.ListN.{length, getD}
+use Rattle.arrange.proofs.Slots.{Filled, filled-start, filled-length, part-within, part-arrangeable, filled-turn, filled-done}
 use Rattle.arrange.proofs.arrange.Statement.{statement}
 use Rattle.arrange.proofs.arrange.Tie as tie
 
@@ -21,6 +13,17 @@ Inv-loop ordered ends seeds words groups slots₀ start₀ g₀ slots start g = 
 
 abbrev μ-loop : tie.MeasureT-loop
 μ-loop ordered ends seeds words groups slots₀ start₀ g₀ slots start g = groups - g
+
+-- The function's entry, from the loop.
+abbrev entry : tie.At-loop Inv-loop μ-loop → tie.Start Inv-loop μ-loop
+entry c = c .before .before .before .before .before .before
+
+-- A turn of the loop: the group's part begins no later than it ends, and ends within the tags and within the cells.
+within : (c : tie.In-loop Inv-loop μ-loop)
+    → (let loop = c .before .loop in let args = entry (c .before) .args in
+    let end = getD (args .ends .now) (loop .g) 0 in
+    (loop .start ≤ end) × (end ≤ length (args .ordered .now)) × (end ≤ length (loop .slots)))
+within c = part-within (entry (c .before) .pre) (c .before .loop .inv) (c .loop-test .taken)
 
 loop-holds : tie.Need-loop-holds Inv-loop μ-loop
 loop-holds c = filled-start (c .before .before .before .before .before .pre)
@@ -32,30 +35,16 @@ shared-slice-read-end : tie.Need-shared-slice-read-end Inv-loop μ-loop
 shared-slice-read-end c = search needs
 
 mul-arrange-group : tie.Need-mul-arrange-group Inv-loop μ-loop
-mul-arrange-group c =
-    let loop = c .before .before in
-    let entry = loop .before .before .before .before .before .before in
-    let follows = part-follows (entry .pre) (loop .loop .inv) (c .before .loop-test .taken) in
-    let inside = part-in-tags (entry .pre) (loop .loop .inv) (c .before .loop-test .taken) in
-    search needs
+mul-arrange-group c = omega (arith, within (c .before))
 
 sub-arrange-group : tie.Need-sub-arrange-group Inv-loop μ-loop
-sub-arrange-group c =
-    let loop = c .before .before in
-    let entry = loop .before .before .before .before .before .before in
-    part-follows (entry .pre) (loop .loop .inv) (c .before .loop-test .taken)
+sub-arrange-group c = within (c .before) .0
 
 part-arrange-group-start : tie.Need-part-arrange-group-start Inv-loop μ-loop
-part-arrange-group-start c =
-    let loop = c .before .before in
-    let entry = loop .before .before .before .before .before .before in
-    part-follows (entry .pre) (loop .loop .inv) (c .before .loop-test .taken)
+part-arrange-group-start c = within (c .before) .0
 
 part-arrange-group-end : tie.Need-part-arrange-group-end Inv-loop μ-loop
-part-arrange-group-end c =
-    let loop = c .before .before in
-    let entry = loop .before .before .before .before .before .before in
-    part-in-tags (entry .pre) (loop .loop .inv) (c .before .loop-test .taken)
+part-arrange-group-end c = within (c .before) .1
 
 mul-arrange-group-2 : tie.Need-mul-arrange-group-2 Inv-loop μ-loop
 mul-arrange-group-2 c = search needs
@@ -70,36 +59,21 @@ shared-slice-read-arrange-group-2 : tie.Need-shared-slice-read-arrange-group-2 I
 shared-slice-read-arrange-group-2 c = search needs
 
 mul-arrange-group-4 : tie.Need-mul-arrange-group-4 Inv-loop μ-loop
-mul-arrange-group-4 c =
-    let loop = c .before .before .before .before .before in
-    let entry = loop .before .before .before .before .before .before in
-    let follows = part-follows (entry .pre) (loop .loop .inv) (c .before .before .before .before .loop-test .taken) in
-    let inside = part-in-tags (entry .pre) (loop .loop .inv) (c .before .before .before .before .loop-test .taken) in
-    search needs
+mul-arrange-group-4 c = omega (arith, within (c .before .before .before .before))
 
 sub-arrange-group-2 : tie.Need-sub-arrange-group-2 Inv-loop μ-loop
-sub-arrange-group-2 c =
-    let loop = c .before .before .before .before .before in
-    let entry = loop .before .before .before .before .before .before in
-    part-follows (entry .pre) (loop .loop .inv) (c .before .before .before .before .loop-test .taken)
+sub-arrange-group-2 c = within (c .before .before .before .before) .0
 
 part-arrange-group-start-2 : tie.Need-part-arrange-group-start-2 Inv-loop μ-loop
-part-arrange-group-start-2 c =
-    let loop = c .before .before .before .before .before in
-    let entry = loop .before .before .before .before .before .before in
-    part-follows (entry .pre) (loop .loop .inv) (c .before .before .before .before .loop-test .taken)
+part-arrange-group-start-2 c = within (c .before .before .before .before) .0
 
 part-arrange-group-end-2 : tie.Need-part-arrange-group-end-2 Inv-loop μ-loop
-part-arrange-group-end-2 c =
-    let loop = c .before .before .before .before .before in
-    let entry = loop .before .before .before .before .before .before in
-    part-in-cells (entry .pre) (loop .loop .inv) (c .before .before .before .before .loop-test .taken)
+part-arrange-group-end-2 c = within (c .before .before .before .before) .2
 
 arrange-group-requires : tie.Need-arrange-group-requires Inv-loop μ-loop
 arrange-group-requires c κs =
-    let loop = c .before .before .before .before .before .before in
-    let entry = loop .before .before .before .before .before .before in
-    part-arrangeable (entry .pre) (loop .loop .inv) (c .before .before .before .before .before .loop-test .taken)
+    let turn = c .before .before .before .before .before in
+    part-arrangeable (entry (turn .before) .pre) (turn .before .loop .inv) (turn .loop-test .taken)
 
 add-g : tie.Need-add-g Inv-loop μ-loop
 add-g c = search needs
@@ -111,21 +85,13 @@ loop-again : tie.Need-loop-again Inv-loop μ-loop
 loop-again c =
     let arranged = c .before .before in
     let turn = arranged .before .before .before .before .before .before in
-    let loop = turn .before in
-    let entry = loop .before .before .before .before .before .before in
-    filled-turn (entry .pre) (loop .loop .inv) (turn .loop-test .taken) (arranged .arrange-group .ensures)
+    filled-turn (entry (turn .before) .pre) (turn .before .loop .inv) (turn .loop-test .taken) (arranged .arrange-group .ensures)
 
 same-length : tie.Need-same-length Inv-loop μ-loop
-same-length c =
-    let loop = c .before in
-    let entry = loop .before .before .before .before .before .before in
-    filled-length (entry .pre) (loop .loop .inv)
+same-length c = filled-length (entry (c .before) .pre) (c .before .loop .inv)
 
 returns : tie.Need-returns Inv-loop μ-loop
-returns c =
-    let loop = c .before in
-    let entry = loop .before .before .before .before .before .before in
-    filled-done (entry .pre) (loop .loop .inv) (c .loop-test .left)
+returns c = filled-done (entry (c .before) .pre) (c .before .loop .inv) (c .loop-test .left)
 
 pub arrange-spec : {M : Type 1} → statement M
 arrange-spec =

@@ -2,9 +2,9 @@
 -- the cells are the group's slots. Assumes nothing.
 use borrow.Author.Needs.{needs}
 use Prim.Native.Nat.{_-_}
-use mathlib.Core.Path.{refl, _∙_}
+use mathlib.Core.Path.{refl}
 use lib.ListN.{length}
-use Rattle.arrange.proofs.Cells.{Arranged, arranged-start, turn-inside, arranged-turn, arranged-done}
+use Rattle.arrange.proofs.Cells.{Arranged, Computed, arranged-start, turn-inside, arranged-turn, arranged-done}
 use Rattle.arrange.proofs.arrange_group.Statement.{statement}
 use Rattle.arrange.proofs.arrange_group.Tie as tie
 
@@ -13,6 +13,16 @@ Inv-loop part seed word cells₀ n first second i₀ cells i = Arranged part see
 
 abbrev μ-loop : tie.MeasureT-loop
 μ-loop part seed word cells₀ n first second i₀ cells i = n - i
+
+-- The function's entry, from the loop.
+abbrev entry : tie.At-loop Inv-loop μ-loop → tie.Start Inv-loop μ-loop
+entry c = c .before .before .before .before .before
+
+-- The multiplier and the place that a turn computes.
+computed : (c : tie.After-hashed Inv-loop μ-loop)
+    → (let loop = c .before .before .before .before in let args = entry loop .args in
+    Computed (args .part .now) (args .seed) (args .word) (loop .loop .i) (c .before .multiplier-at .result) (c .hashed .result))
+computed c = record { by-is = cc (c .before .multiplier-at .ensures); place-is = c .hashed .ensures }
 
 cast-n : tie.Need-cast-n Inv-loop μ-loop
 cast-n c = search needs
@@ -49,13 +59,8 @@ mul-cells c = search needs
 
 slice-write-cells : tie.Need-slice-write-cells Inv-loop μ-loop
 slice-write-cells c =
-    let loop = c .before .before .before .before in
-    let entry = loop .before .before .before .before .before in
-    turn-inside (entry .pre) (loop .loop .inv) (c .before .before .before .loop-test .taken)
-    record {
-      by-is = c .before .multiplier-at .ensures ∙ rw (loop .before .multiplier2 .ensures, loop .before .before .multiplier .ensures);
-      place-is = c .hashed .ensures;
-    }
+    let turn = c .before .before .before in
+    turn-inside (entry (turn .before) .pre) (turn .before .loop .inv) (turn .loop-test .taken) (computed c)
 
 add-i : tie.Need-add-i Inv-loop μ-loop
 add-i c = search needs
@@ -65,22 +70,14 @@ loop-less c = search needs
 
 loop-again : tie.Need-loop-again Inv-loop μ-loop
 loop-again c =
-    let loop = c .before .before .before .before in
-    let entry = loop .before .before .before .before .before in
-    arranged-turn (entry .pre) (loop .loop .inv) (c .before .before .before .loop-test .taken)
-    record {
-      by-is = c .before .multiplier-at .ensures ∙ rw (loop .before .multiplier2 .ensures, loop .before .before .multiplier .ensures);
-      place-is = c .hashed .ensures;
-    }
+    let turn = c .before .before .before in
+    arranged-turn (entry (turn .before) .pre) (turn .before .loop .inv) (turn .loop-test .taken) (computed c)
 
 same-length : tie.Need-same-length Inv-loop μ-loop
 same-length c = c .before .loop .inv .long
 
 returns : tie.Need-returns Inv-loop μ-loop
-returns c =
-    let loop = c .before in
-    let entry = loop .before .before .before .before .before in
-    arranged-done (entry .pre) (loop .loop .inv) (c .loop-test .left)
+returns c = arranged-done (entry (c .before) .pre) (c .before .loop .inv) (c .loop-test .left)
 
 pub arrange-group-spec : {M : Type 1} → statement M
 arrange-group-spec =

@@ -1,18 +1,28 @@
 -- `candidates::candidate_places` meets its contract: the first places, and behind them the second. Assumes nothing.
-use mathlib.Core.Path.{_∙_, ap}
-use mathlib.Core.Bool.{true, false}
-use mathlib.Core.List.{map}
+use Prim.Native.Nat.{ℕ}
+use mathlib.Core.Path.{_≡_, refl, _∙_, ap}
+use mathlib.Core.Bool.{Bool, true, false}
+use mathlib.Core.List.{List, [], _∷_, map}
 use native.Mathlib.Omega.{arith}
 use lib.ListN.{length, length-map}
 use lib.Seq.{length-paste}
 use borrow.Author.Needs.{needs}
-use Rattle.hash.specs.Formula.{hashed}
+use Rattle.hash.specs.Formula.{hashed, multiplier, placeOf}
+use Rattle.filling.specs.Filling.{placeBy}
 use Rattle.filling.specs.Word.{choiceNumber}
+use Rattle.places.specs.Array.{placesBy, laidInto}
+use Rattle.group.specs.Group.{bothPlaces, candidates}
 use Rattle.group.specs.GroupLaws.{candidates-length}
-use Rattle.candidates.specs.Array.{laidInto}
-use Rattle.candidates.specs.ArrayLaws.{placesBy-hashed}
 use Rattle.candidates.proofs.candidate_places.Statement.{statement}
 use Rattle.candidates.proofs.candidate_places.Tie as tie
+
+-- Under one choice, the candidate places of tags are the tags hashed by the choice's multiplier.
+placesBy-hashed : (choice : Bool) (n s : ℕ) (tags : List ℕ)
+    → map (hashed (multiplier s (choiceNumber choice)) n) tags ≡ placesBy choice (candidates n s tags)
+unfolding placesBy candidates bothPlaces placeBy placeOf choiceNumber
+placesBy-hashed choice n s [] = refl
+placesBy-hashed false n s (t ∷ tags) = rw (placesBy-hashed false n s tags)
+placesBy-hashed true n s (t ∷ tags) = rw (placesBy-hashed true n s tags)
 
 multiplier-requires : tie.Need-multiplier-requires
 multiplier-requires c κs = search needs

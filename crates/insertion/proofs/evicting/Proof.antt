@@ -1,14 +1,17 @@
 -- `insertion::evicting` meets its contract: the two insertions give the lightest words with either choice of key k, and the
 -- lighter of them stays. Assumes nothing.
+use mathlib.Core.Bool.{true, false}
 use borrow.Author.Needs.{needs}
-use Rattle.insertion.specs.InsertedLaws.{first-ready, second-ready, second-stays, first-stays, lighter-stays}
+use Rattle.bits.specs.WordBits.{withChoice}
+use Rattle.insertion.specs.InsertedLaws.{ready, one-stays, second-stays, lighter-stays}
 use Rattle.insertion.proofs.evicting.Statement.{statement}
 use Rattle.insertion.proofs.evicting.Tie as tie
 
 insert-requires : tie.Need-insert-requires
+unfolding withChoice
 insert-requires c κs =
     let pre = c .before .before .pre in
-    first-ready _ _ _ (pre .0) (pre .1)
+    ready _ _ _ (pre .0) (pre .1) false
 
 enum-known-a : tie.Need-enum-known-a
 enum-known-a c = search needs
@@ -20,9 +23,10 @@ with-bit-requires : tie.Need-with-bit-requires
 with-bit-requires c κs = search needs
 
 insert-requires-2 : tie.Need-insert-requires-2
+unfolding withChoice
 insert-requires-2 c κs =
     let pre = c .before .before .before .before .before .before .pre in
-    rw (c .with-bit .ensures) (second-ready _ _ _ (pre .0) (pre .1))
+    rw (c .with-bit .ensures) (ready _ _ _ (pre .0) (pre .1) true)
 
 returns : tie.Need-returns
 returns c =
@@ -37,9 +41,10 @@ with-bit-requires-2 : tie.Need-with-bit-requires-2
 with-bit-requires-2 c κs = search needs
 
 insert-requires-3 : tie.Need-insert-requires-3
+unfolding withChoice
 insert-requires-3 c κs =
     let pre = c .before .before .before .before .before .before .before .pre in
-    rw (c .with-bit2 .ensures) (second-ready _ _ _ (pre .0) (pre .1))
+    rw (c .with-bit2 .ensures) (ready _ _ _ (pre .0) (pre .1) true)
 
 enum-known-b : tie.Need-enum-known-b
 enum-known-b c = search needs
@@ -48,6 +53,7 @@ enum-told-2 : tie.Need-enum-told-2
 enum-told-2 c = search needs
 
 returns-2 : tie.Need-returns-2
+unfolding withChoice
 returns-2 c =
     let both = c .before .before in
     let known = both .before .before .before in
@@ -55,7 +61,7 @@ returns-2 c =
     let start = inserted .before .before .before in
     let first = rw (known .a .given .1) at (inserted .insert .ensures) in
     let second = rw (both .before .with-bit2 .ensures, c .enum-told2 .given .1) at (both .insert3 .ensures) in
-    first-stays _ _ _ (start .pre .0) _ first second
+    one-stays _ _ _ (start .pre .0) false _ first second
 
 add-lighter : tie.Need-add-lighter
 add-lighter c = search needs

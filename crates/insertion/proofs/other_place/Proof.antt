@@ -1,8 +1,9 @@
 -- `insertion::other_place` meets its contract: the two entries read are the key's two places. Assumes nothing.
+use mathlib.Core.Path.{refl}
 use mathlib.Core.Bool.{true, false}
 use native.Mathlib.Omega.{arith}
 use borrow.Author.Needs.{needs}
-use Rattle.insertion.specs.EntryLaws.{entry-first, entry-second}
+use Rattle.places.specs.Array.{entryOf}
 use Rattle.insertion.proofs.other_place.Statement.{statement}
 use Rattle.insertion.proofs.other_place.Tie as tie
 
@@ -22,24 +23,19 @@ shared-slice-read-result-2 : tie.Need-shared-slice-read-result-2
 shared-slice-read-result-2 c = search needs
 
 add-result-2 : tie.Need-add-result-2
+unfolding entryOf
 add-result-2 c =
     let start = c .before .before in
-    let places = start .args .places .now in
-    let i = start .args .i in
-    let below = start .pre .0 .1 .below i (omega arith) in
-    record { fits = omega (arith, entry-first places i, entry-second places i, below false, below true) }
+    let below = start .pre .0 .1 .below (start .args .i) (omega arith) in
+    record { fits = omega (arith, below false, below true) }
 
 sub-result : tie.Need-sub-result
-sub-result c =
-    let start = c .before .before in
-    let places = start .args .places .now in
-    let i = start .args .i in
-    omega (arith, entry-first places i, entry-second places i, start .pre .1)
+unfolding entryOf
+sub-result c = omega (arith, c .before .before .pre .1)
 
 returns : tie.Need-returns
-returns c =
-    let a = c .before .before .args in
-    rw (entry-first (a .places .now) (a .i), entry-second (a .places .now) (a .i))
+unfolding entryOf
+returns c = refl
 
 pub other-place-spec : {M : Type 1} → statement M
 other-place-spec =

@@ -5,7 +5,7 @@ use mathlib.Core.Bool.{true, false}
 use borrow.Author.Needs.{needs}
 use Rattle.bits.specs.WordBits.{choiceIn}
 use Rattle.bits.specs.WordBitsLaws.{choiceNumber-one, choiceNumber-zero}
-use Rattle.insertion.specs.EntryLaws.{entry-first, entry-second}
+use Rattle.places.specs.Array.{entryOf}
 use Rattle.insertion.proofs.place_taken.Statement.{statement}
 use Rattle.insertion.proofs.place_taken.Tie as tie
 
@@ -28,20 +28,22 @@ shared-slice-read-result-2 : tie.Need-shared-slice-read-result-2
 shared-slice-read-result-2 c = search needs
 
 returns : tie.Need-returns
+unfolding entryOf
 returns c =
     let chosen = c .before .before in
     let a = chosen .before .before .args in
     let second : choiceIn (a .word) (a .i) ≡ true =
     choiceNumber-one (choiceIn (a .word) (a .i)) (sym (chosen .choice-at .ensures) ∙ c .before .if1 .taken) in
-    rw second (entry-second (a .places .now) (a .i))
+    rw second
 
 returns-2 : tie.Need-returns-2
+unfolding entryOf
 returns-2 c =
     let chosen = c .before .before in
     let a = chosen .before .before .args in
     let first : choiceIn (a .word) (a .i) ≡ false =
     choiceNumber-zero (choiceIn (a .word) (a .i)) (λ e. c .before .if1 .left (chosen .choice-at .ensures ∙ e)) in
-    rw first (entry-first (a .places .now) (a .i))
+    rw first
 
 pub place-taken-spec : {M : Type 1} → statement M
 place-taken-spec =

@@ -1,15 +1,28 @@
 -- `insertion::with_key` meets its contract: at a free first place no key moves, at a free second one key k weighs less than a move
 -- of a key before it, and otherwise both insertions are made. Assumes nothing.
-use Prim.Native.Nat.{_+_}
+use Prim.Native.Nat.{_+_, _<_}
 use mathlib.Core.Path.{refl}
+use mathlib.Core.Bool.{true, false}
 use native.Mathlib.Omega.{arith}
+use lib.ListN.{getD}
 use borrow.Author.Needs.{needs}
-use Rattle.insertion.specs.EntryLaws.{entry-first, entry-second, first-below, second-below}
+use Rattle.refusal.specs.Limits.{groupMax}
+use Rattle.bits.specs.WordBits.{withChoice}
+use Rattle.places.specs.Array.{entryOf}
 use Rattle.insertion.specs.Occupants.{occupantsAfter}
 use Rattle.insertion.specs.LeastWordLaws.{word-lightest}
-use Rattle.insertion.specs.InsertedLaws.{cells-size, first-free, second-free, first-occupied, second-occupied}
+use Rattle.insertion.specs.InsertedLaws.{place-within, cells-size, first-free, second-free, free-occupied}
 use Rattle.insertion.proofs.with_key.Statement.{statement}
 use Rattle.insertion.proofs.with_key.Tie as tie
+
+-- Both places of key k have a cell.
+first : (c : tie.Start) → getD (c .args .places .now) (c .args .k) 0 < groupMax
+unfolding entryOf
+first c = place-within _ _ _ (c .pre .0) false
+
+second : (c : tie.Start) → getD (c .args .places .now) (groupMax + c .args .k) 0 < groupMax
+unfolding entryOf
+second c = place-within _ _ _ (c .pre .0) true
 
 mul-first : tie.Need-mul-first
 mul-first c = search needs
@@ -18,44 +31,28 @@ shared-slice-read-first : tie.Need-shared-slice-read-first
 shared-slice-read-first c = search needs
 
 cast-first : tie.Need-cast-first
-cast-first c =
-    let start = c .before .before in
-    record { fits = omega (arith, first-below (start .args .k) (start .pre .0 .1)) }
+cast-first c = record { fits = omega (arith, first (c .before .before)) }
 
 mul-if1 : tie.Need-mul-if1
-mul-if1 c =
-    let start = c .before .before in
-    record { fits = omega (arith, first-below (start .args .k) (start .pre .0 .1)) }
+mul-if1 c = record { fits = omega (arith, first (c .before .before)) }
 
 element-copy-out-if1 : tie.Need-element-copy-out-if1
-element-copy-out-if1 c =
-    let start = c .before .before in
-    omega (arith, first-below (start .args .k) (start .pre .0 .1))
+element-copy-out-if1 c = omega (arith, first (c .before .before))
 
 add-occupants : tie.Need-add-occupants
 add-occupants c = search needs
 
 mul-occupants : tie.Need-mul-occupants
-mul-occupants c =
-    let start = c .before .before .before .before in
-    record { fits = omega (arith, first-below (start .args .k) (start .pre .0 .1)) }
+mul-occupants c = record { fits = omega (arith, first (c .before .before .before .before)) }
 
 element-write-occupants : tie.Need-element-write-occupants
-element-write-occupants c =
-    let start = c .before .before .before .before in
-    omega (arith, first-below (start .args .k) (start .pre .0 .1))
+element-write-occupants c = omega (arith, first (c .before .before .before .before))
 
 returns : tie.Need-returns
-unfolding occupantsAfter
+unfolding occupantsAfter entryOf withChoice
 returns c =
-    let start = c .before .before .before .before in
-    let pre = start .pre in
-    let a = start .args in
-    let free = rw (entry-first (a .places .now) (a .k)) at (c .if1 .taken) in
-    rw (entry-first (a .places .now) (a .k)) (
-      first-free _ _ _ (pre .0) (pre .1) free,
-      first-occupied _ _ _ (pre .0) (pre .1) free,
-    )
+    let pre = c .before .before .before .before .pre in
+    (first-free _ _ _ (pre .0) (pre .1) (c .if1 .taken), free-occupied _ _ _ (pre .0) (pre .1) false (c .if1 .taken))
 
 add-second : tie.Need-add-second
 add-second c = search needs
@@ -67,49 +64,35 @@ shared-slice-read-second : tie.Need-shared-slice-read-second
 shared-slice-read-second c = search needs
 
 cast-second : tie.Need-cast-second
-cast-second c =
-    let start = c .before .before .before .before .before in
-    record { fits = omega (arith, second-below (start .args .k) (start .pre .0 .1)) }
+cast-second c = record { fits = omega (arith, second (c .before .before .before .before .before)) }
 
 mul-if2 : tie.Need-mul-if2
-mul-if2 c =
-    let start = c .before .before .before .before .before in
-    record { fits = omega (arith, second-below (start .args .k) (start .pre .0 .1)) }
+mul-if2 c = record { fits = omega (arith, second (c .before .before .before .before .before)) }
 
 element-copy-out-if2 : tie.Need-element-copy-out-if2
-element-copy-out-if2 c =
-    let start = c .before .before .before .before .before in
-    omega (arith, second-below (start .args .k) (start .pre .0 .1))
+element-copy-out-if2 c = omega (arith, second (c .before .before .before .before .before))
 
 add-occupants-2 : tie.Need-add-occupants-2
 add-occupants-2 c = search needs
 
 mul-occupants-2 : tie.Need-mul-occupants-2
-mul-occupants-2 c =
-    let start = c .before .before .before .before .before .before .before in
-    record { fits = omega (arith, second-below (start .args .k) (start .pre .0 .1)) }
+mul-occupants-2 c = record { fits = omega (arith, second (c .before .before .before .before .before .before .before)) }
 
 element-write-occupants-2 : tie.Need-element-write-occupants-2
-element-write-occupants-2 c =
-    let start = c .before .before .before .before .before .before .before in
-    omega (arith, second-below (start .args .k) (start .pre .0 .1))
+element-write-occupants-2 c = omega (arith, second (c .before .before .before .before .before .before .before))
 
 with-bit-requires : tie.Need-with-bit-requires
 with-bit-requires c κs = search needs
 
 returns-2 : tie.Need-returns-2
-unfolding occupantsAfter
+unfolding occupantsAfter entryOf withChoice
 returns-2 c =
     let second = c .before in
     let first = second .before .before .before in
-    let start = first .before .before .before .before in
-    let pre = start .pre in
-    let a = start .args in
-    let busy = rw (entry-first (a .places .now) (a .k)) at (first .if1 .left) in
-    let free = rw (entry-second (a .places .now) (a .k)) at (second .if2 .taken) in
-    rw (c .with-bit .ensures, entry-second (a .places .now) (a .k)) (
-      second-free _ _ _ (pre .0) (pre .1) free busy,
-      second-occupied _ _ _ (pre .0) (pre .1) free,
+    let pre = first .before .before .before .before .pre in
+    rw (c .with-bit .ensures) (
+      second-free _ _ _ (pre .0) (pre .1) (second .if2 .taken) (first .if1 .left),
+      free-occupied _ _ _ (pre .0) (pre .1) true (second .if2 .taken),
     )
 
 evicting-requires : tie.Need-evicting-requires

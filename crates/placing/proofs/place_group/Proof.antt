@@ -1,20 +1,73 @@
 -- `placing::place_group` meets its contract: each branch is one of the ways in which placing ends; under the seed found the sequence
 -- taken fills, so its word is what `least_choices` answers. Assumes nothing.
-use borrow.Author.Needs.{needs}
+use Prim.Native.Nat.{ℕ}
 use mathlib.Core.Path.{_≡_, refl, sym, _∙_, ap}
+use mathlib.Core.Bool.{false}
+use mathlib.Core.List.{List}
 use mathlib.Core.Option.{none, some}
+use lib.ListN.{length}
+use borrow.Author.Needs.{needs}
+use Rattle.refusal.specs.Answer.{firstMeaning}
+use Rattle.refusal.specs.Limits.{limitMax, outside}
 use Rattle.refusal.specs.LimitsLaws.{inside}
 use Rattle.filling.specs.Word.{wordOf}
-use Rattle.group.specs.Group.{taken}
+use Rattle.places.specs.Array.{Candidates, keysOf}
+use Rattle.group.specs.Group.{groupUnder, leastSeed, taken}
 use Rattle.group.specs.GroupLaws.{leastSeed-some}
-use Rattle.refusal.specs.Answer.{firstMeaning}
 use Rattle.seeds.specs.Answer.{foundMeaning}
 use Rattle.sequence.specs.Answer.{choicesMeaning}
 use Rattle.sequence.specs.TakenLaws.{word-taken}
-use Rattle.placing.specs.PlacesLaws.{group-candidates, group-keys}
-use Rattle.placing.specs.PlacingLaws.{placing-limit, placing-large, placing-descends, placing-unseeded, placing-seeded}
+use Rattle.placing.specs.PlacesLaws.{left-places}
+use Rattle.placing.specs.PlacingLaws.{Placeable, placing-limit, placing-large, placing-descends, placing-unseeded, placing-seeded}
 use Rattle.placing.proofs.place_group.Statement.{statement}
 use Rattle.placing.proofs.place_group.Tie as tie
+
+-- The limit is legal.
+legal : (c : tie.Else1) → outside 1 limitMax (c .before .before .before .args .limit) ≡ false
+legal c = sym (c .before .outside .ensures) ∙ c .if1 .left
+
+-- The checks before the last are passed.
+abbrev entry : tie.After-enum-told → tie.Start
+entry c = c .before .before .before .before .before .before .before
+
+placeable : (c : tie.After-enum-told) → Placeable (entry c .args .tags .now) (entry c .args .limit)
+placeable c =
+    let compared = c .before .before in
+    record {
+      limit-legal = legal (compared .before .before);
+      few = compared .before .if2 .left;
+      ascending = sym (compared .first-not-above .ensures) ∙ ap firstMeaning (c .enum-told .given .1);
+    }
+
+-- A seed is found, and the candidate places under it are in the cells.
+abbrev passed : tie.After-seed → tie.After-enum-told
+passed c = c .before .before .before .before
+
+abbrev tags : tie.After-seed → List ℕ
+tags c = entry (passed c) .args .tags .now
+
+abbrev seed : tie.After-seed → ℕ
+seed c = c .seed .given .0 .0
+
+seed-is : (c : tie.After-seed) → leastSeed (tags c) (entry (passed c) .args .limit) ≡ some (seed c)
+seed-is c = sym (c .before .before .least-seed .ensures .0) ∙ ap foundMeaning (c .seed .given .1)
+
+abbrev cells : tie.After-seed → List ℕ
+cells c = c .before .before .least-seed .last .1 .1 .0
+
+left : (c : tie.After-seed) → Candidates (cells c) (length (tags c)) × (keysOf (length (tags c)) (cells c) ≡ groupUnder (tags c) (seed c))
+left c =
+    let laid = rw (c .seed .given .1) at (c .before .before .least-seed .ensures .1) in
+    left-places (tags c) _ (placeable (passed c) .few) refl (seed c) _ laid
+
+-- The word answered is that of the sequence taken.
+word-is : (c : tie.After-least-choices)
+    → (let found = c .before .before .before in
+    choicesMeaning (c .least-choices .result) ≡ some (wordOf (taken (tags found) (seed found))))
+word-is c =
+    let found = c .before .before .before in
+    let least = leastSeed-some (tags found) _ (seed-is found) in
+    word-taken (tags found) (seed found) (c .least-choices .result) (rw (left found .1) at (c .least-choices .ensures)) _ (least .fills)
 
 outside-requires : tie.Need-outside-requires
 outside-requires c κs = search needs
@@ -25,8 +78,7 @@ refuse-requires c κs = search needs
 returns : tie.Need-returns
 returns c =
     let ranged = c .before .before in
-    let a = ranged .before .before .args in
-    c .refuse .ensures ∙ sym (placing-limit (a .tags .now) (a .limit) (sym (ranged .outside .ensures) ∙ c .before .if1 .taken))
+    c .refuse .ensures ∙ sym (placing-limit _ _ (sym (ranged .outside .ensures) ∙ c .before .if1 .taken))
 
 cast-if2 : tie.Need-cast-if2
 cast-if2 c = search needs
@@ -35,12 +87,7 @@ refuse-requires-2 : tie.Need-refuse-requires-2
 refuse-requires-2 c κs = search needs
 
 returns-2 : tie.Need-returns-2
-returns-2 c =
-    let legal-limit = c .before .before in
-    let ranged = legal-limit .before in
-    let a = ranged .before .before .args in
-    let legal = sym (ranged .outside .ensures) ∙ legal-limit .if1 .left in
-    c .refuse2 .ensures ∙ sym (placing-large (a .tags .now) (a .limit) legal (c .before .if2 .taken))
+returns-2 c = c .refuse2 .ensures ∙ sym (placing-large _ _ (legal (c .before .before)) (c .before .if2 .taken))
 
 first-not-above-requires : tie.Need-first-not-above-requires
 first-not-above-requires c κs = search needs
@@ -55,12 +102,8 @@ returns-3 : tie.Need-returns-3
 returns-3 c =
     let met = c .before .before in
     let compared = met .before .before in
-    let legal-limit = compared .before .before in
-    let ranged = legal-limit .before in
-    let a = ranged .before .before .args in
-    let legal = sym (ranged .outside .ensures) ∙ legal-limit .if1 .left in
     c .refuse3 .ensures
-    ∙ sym (placing-descends (a .tags .now) (a .limit) legal (compared .before .if2 .left)
+    ∙ sym (placing-descends _ _ (legal (compared .before .before)) (compared .before .if2 .left)
     (sym (compared .first-not-above .ensures) ∙ ap firstMeaning (met .i .given .1)))
 
 enum-told : tie.Need-enum-told
@@ -68,12 +111,8 @@ enum-told c = search needs
 
 least-seed-requires : tie.Need-least-seed-requires
 least-seed-requires c κs =
-    let compared = c .before .before .before in
-    let legal-limit = compared .before .before in
-    let ranged = legal-limit .before in
-    let a = ranged .before .before .args in
-    let legal = sym (ranged .outside .ensures) ∙ legal-limit .if1 .left in
-    (compared .before .if2 .left, (inside 1 _ (a .limit) legal) .1, refl)
+    let p = placeable (c .before) in
+    (p .few, inside 1 _ _ (p .limit-legal) .1, refl)
 
 enum-known-seed : tie.Need-enum-known-seed
 enum-known-seed c = search needs
@@ -87,26 +126,11 @@ refuse-requires-4 c κs = search needs
 returns-4 : tie.Need-returns-4
 returns-4 c =
     let searched = c .before .before .before in
-    let rising = searched .before .before in
-    let compared = rising .before .before in
-    let legal-limit = compared .before .before in
-    let ranged = legal-limit .before in
-    let a = ranged .before .before .args in
-    let legal = sym (ranged .outside .ensures) ∙ legal-limit .if1 .left in
-    let up = sym (compared .first-not-above .ensures) ∙ ap firstMeaning (rising .enum-told .given .1) in
-    c .refuse4 .ensures
-    ∙ sym (placing-unseeded (a .tags .now) (a .limit) legal (compared .before .if2 .left) up
-    (sym (searched .least-seed .ensures .0) ∙ ap foundMeaning (c .before .enum-told2 .given .1)))
+    let nothing = sym (searched .least-seed .ensures .0) ∙ ap foundMeaning (c .before .enum-told2 .given .1) in
+    c .refuse4 .ensures ∙ sym (placing-unseeded (placeable (searched .before .before)) nothing)
 
 slice-aggregate-least-choices : tie.Need-slice-aggregate-least-choices
-slice-aggregate-least-choices c =
-    let found = c .before .before in
-    let searched = found .before .before in
-    let compared = searched .before .before .before .before in
-    let a = compared .before .before .before .before .before .args in
-    let left = rw (found .seed .given .1) at (searched .least-seed .ensures .1) in
-    let laid = group-candidates (a .tags .now) _ (compared .before .if2 .left) refl (found .seed .given .0 .0) (a .limit) left in
-    sym (laid .size)
+slice-aggregate-least-choices c = sym (left (c .before .before) .0 .size)
 
 cast-least-choices : tie.Need-cast-least-choices
 cast-least-choices c = search needs
@@ -114,13 +138,7 @@ cast-least-choices c = search needs
 least-choices-requires : tie.Need-least-choices-requires
 least-choices-requires c κs =
     let found = c .before .before in
-    let searched = found .before .before in
-    let rising = searched .before .before in
-    let compared = rising .before .before in
-    let a = compared .before .before .before .before .before .args in
-    let small = compared .before .if2 .left in
-    let left = rw (found .seed .given .1) at (searched .least-seed .ensures .1) in
-    (small, group-candidates (a .tags .now) _ small refl (found .seed .given .0 .0) (a .limit) left)
+    (placeable (passed found) .few, left found .0)
 
 enum-known-word : tie.Need-enum-known-word
 enum-known-word c = search needs
@@ -133,44 +151,16 @@ refuse-requires-5 c κs = search needs
 
 returns-5 : tie.Need-returns-5
 returns-5 c =
-    let chosen = c .before .before .before in
-    let found = chosen .before .before .before in
-    let searched = found .before .before in
-    let rising = searched .before .before in
-    let compared = rising .before .before in
-    let legal-limit = compared .before .before in
-    let ranged = legal-limit .before in
-    let a = ranged .before .before .args in
-    let legal = sym (ranged .outside .ensures) ∙ legal-limit .if1 .left in
-    let up = sym (compared .first-not-above .ensures) ∙ ap firstMeaning (rising .enum-told .given .1) in
-    let seed-is = sym (searched .least-seed .ensures .0) ∙ ap foundMeaning (found .seed .given .1) in
-    let least = leastSeed-some (a .tags .now) (a .limit) seed-is in
-    let left = rw (found .seed .given .1) at (searched .least-seed .ensures .1) in
-    let keys = group-keys (a .tags .now) _ (compared .before .if2 .left) refl (found .seed .given .0 .0) (a .limit) left in
-    let word-is = word-taken (a .tags .now) _ _ (rw keys at (chosen .least-choices .ensures)) _ (least .fills) in
-    let never : none ≡ some _ = ap choicesMeaning (sym (c .before .enum-told3 .given .1) ∙ word-is) in
+    let never : none ≡ some _ = sym (ap choicesMeaning (c .before .enum-told3 .given .1)) ∙ word-is (c .before .before .before) in
     cc
 
 returns-6 : tie.Need-returns-6
 returns-6 c =
     let chosen = c .before .before .before in
     let found = chosen .before .before .before in
-    let searched = found .before .before in
-    let rising = searched .before .before in
-    let compared = rising .before .before in
-    let legal-limit = compared .before .before in
-    let ranged = legal-limit .before in
-    let a = ranged .before .before .args in
-    let legal = sym (ranged .outside .ensures) ∙ legal-limit .if1 .left in
-    let up = sym (compared .first-not-above .ensures) ∙ ap firstMeaning (rising .enum-told .given .1) in
-    let seed-is = sym (searched .least-seed .ensures .0) ∙ ap foundMeaning (found .seed .given .1) in
-    let least = leastSeed-some (a .tags .now) (a .limit) seed-is in
-    let left = rw (found .seed .given .1) at (searched .least-seed .ensures .1) in
-    let keys = group-keys (a .tags .now) _ (compared .before .if2 .left) refl (found .seed .given .0 .0) (a .limit) left in
-    let word-is = word-taken (a .tags .now) _ _ (rw keys at (chosen .least-choices .ensures)) _ (least .fills) in
-    let same = ap choicesMeaning (sym (c .before .word .given .1) ∙ word-is) in
-    let word-same : c .before .word .given .0 .0 ≡ wordOf (taken (a .tags .now) (found .seed .given .0 .0)) = cc in
-    rw word-same (sym (placing-seeded (a .tags .now) (a .limit) legal (compared .before .if2 .left) up seed-is))
+    let same = sym (ap choicesMeaning (c .before .word .given .1)) ∙ word-is chosen in
+    let word-same : c .before .word .given .0 .0 ≡ wordOf (taken (tags found) (seed found)) = cc in
+    rw word-same (sym (placing-seeded (placeable (passed found)) (seed-is found)))
 
 pub place-group-spec : {M : Type 1} → statement M
 place-group-spec =

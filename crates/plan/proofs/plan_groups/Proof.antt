@@ -2,12 +2,12 @@
 -- under it. Assumes nothing.
 use borrow.Author.Needs.{needs}
 use mathlib.Core.Path.{sym, _∙_, ap}
-use Prim.Native.Nat.{_-_}
+use Prim.Native.Nat.{_-_, _≤_}
 use native.Mathlib.Omega.{arith}
+use lib.ListN.{length, getD}
+use Rattle.numbering.specs.PartsLaws.{part-bounds}
 use Rattle.placing.specs.Answer.{placingOutcome}
-use Rattle.plan.proofs.Planning.{PlannedUpTo, planned-start, part-is, part-follows}
-use Rattle.plan.proofs.Planning.{part-inside, planned-turn, planned-without, planned-done}
-use borrow.Author.Needs.{needs}
+use Rattle.plan.proofs.Planning.{PlannedUpTo, planned-start, planned-turn, planned-without, planned-done}
 use Rattle.plan.proofs.plan_groups.Statement.{statement}
 use Rattle.plan.proofs.plan_groups.Tie as tie
 
@@ -18,6 +18,16 @@ Inv-loop ordered ends groups limit seeds₀ words₀ start₀ g₀ seeds words s
 abbrev μ-loop : tie.MeasureT-loop
 μ-loop ordered ends groups limit seeds₀ words₀ start₀ g₀ seeds words start g = groups - g
 
+-- The function's entry, from a turn of the loop.
+abbrev entry : tie.In-loop Inv-loop μ-loop → tie.Start Inv-loop μ-loop
+entry c = c .before .before .before .before
+
+-- The group's part begins no later than it ends, and ends within the tags.
+bounds : (c : tie.In-loop Inv-loop μ-loop)
+    → (let end = getD (entry c .args .ends .now) (c .before .loop .g) 0 in
+    (c .before .loop .start ≤ end) × (end ≤ length (entry c .args .ordered .now)))
+bounds c = part-bounds (entry c .pre .0 .parts) (c .before .loop .g) (c .before .loop .inv .start-is) (c .loop-test .taken)
+
 loop-holds : tie.Need-loop-holds Inv-loop μ-loop
 loop-holds c =
     let a = c .before .before .args in
@@ -27,34 +37,19 @@ mul-end : tie.Need-mul-end Inv-loop μ-loop
 mul-end c = search needs
 
 shared-slice-read-end : tie.Need-shared-slice-read-end Inv-loop μ-loop
-shared-slice-read-end c =
-    let start = c .before .before .before .before .before in
-    omega (arith, start .pre .0 .parts .known)
+shared-slice-read-end c = omega (arith, entry (c .before) .pre .0 .parts .known)
 
 mul-place-group : tie.Need-mul-place-group Inv-loop μ-loop
-mul-place-group c =
-    let turn = c .before in
-    let loop = turn .before in
-    let pre = loop .before .before .before .pre .0 in
-    omega (arith, part-follows pre (loop .loop .inv) (turn .loop-test .taken), part-inside pre (loop .loop .inv) (turn .loop-test .taken))
+mul-place-group c = omega (arith, bounds (c .before))
 
 sub-place-group : tie.Need-sub-place-group Inv-loop μ-loop
-sub-place-group c =
-    let turn = c .before in
-    let loop = turn .before in
-    omega (arith, part-follows (loop .before .before .before .pre .0) (loop .loop .inv) (turn .loop-test .taken))
+sub-place-group c = bounds (c .before) .0
 
 part-place-group-start : tie.Need-part-place-group-start Inv-loop μ-loop
-part-place-group-start c =
-    let turn = c .before in
-    let loop = turn .before in
-    omega (arith, part-follows (loop .before .before .before .pre .0) (loop .loop .inv) (turn .loop-test .taken))
+part-place-group-start c = bounds (c .before) .0
 
 part-place-group-end : tie.Need-part-place-group-end Inv-loop μ-loop
-part-place-group-end c =
-    let turn = c .before in
-    let loop = turn .before in
-    omega (arith, part-inside (loop .before .before .before .pre .0) (loop .loop .inv) (turn .loop-test .taken))
+part-place-group-end c = bounds (c .before) .1
 
 place-group-requires : tie.Need-place-group-requires Inv-loop μ-loop
 place-group-requires c κs = search needs
@@ -69,12 +64,9 @@ returns : tie.Need-returns Inv-loop μ-loop
 returns c =
     let placed = c .before .before in
     let turn = placed .before .before .before in
-    let loop = turn .before in
-    let start = loop .before .before .before in
+    let inv = turn .before .loop .inv in
     let outcome = sym (placed .place-group .ensures) ∙ ap placingOutcome (c .enum-told .given .1) in
-    let lowest = planned-without (start .pre .0) (loop .loop .inv) (turn .loop-test .taken)
-    (part-is (start .pre .0) (loop .loop .inv) (turn .loop-test .taken)) outcome in
-    (sym lowest, (loop .loop .inv .seeds-are, loop .loop .inv .words-are))
+    (sym (planned-without (entry turn .pre .0) inv (turn .loop-test .taken) outcome), (inv .seeds-are, inv .words-are))
 
 mul-seeds : tie.Need-mul-seeds Inv-loop μ-loop
 mul-seeds c = search needs
@@ -96,20 +88,15 @@ loop-less c = search needs
 
 loop-again : tie.Need-loop-again Inv-loop μ-loop
 loop-again c =
-    let told = c .before in
-    let placed = told .before .before in
+    let placed = c .before .before .before in
     let turn = placed .before .before .before in
-    let loop = turn .before in
-    let start = loop .before .before .before in
-    let outcome = sym (placed .place-group .ensures) ∙ ap placingOutcome (told .seed .given .1) in
-    planned-turn (start .pre .0) (loop .loop .inv) (turn .loop-test .taken)
-    (part-is (start .pre .0) (loop .loop .inv) (turn .loop-test .taken)) outcome
-    (omega (arith, start .pre .1, start .pre .2)) (omega (arith, start .pre .1, start .pre .3))
+    let outcome = sym (placed .place-group .ensures) ∙ ap placingOutcome (c .before .seed .given .1) in
+    planned-turn (entry turn .pre .0) (turn .before .loop .inv) (turn .loop-test .taken) outcome
+    (omega (arith, entry turn .pre .1, entry turn .pre .2)) (omega (arith, entry turn .pre .1, entry turn .pre .3))
 
 returns-2 : tie.Need-returns-2 Inv-loop μ-loop
 returns-2 c =
-    let loop = c .before in
-    let done = planned-done (loop .loop .inv) (c .loop-test .left) in
+    let done = planned-done (c .before .loop .inv) (c .loop-test .left) in
     (sym (done .0), done .1)
 
 pub plan-groups-spec : {M : Type 1} → statement M

@@ -3,22 +3,20 @@
 -- make, 2 * groupMax + 1. Assumes nothing.
 use Prim.Native.Nat.{ℕ, _+_, _*_, _-_, _<_}
 use mathlib.Core.Path.{_≡_, sym, _∙_}
+use mathlib.Core.Bool.{true, false}
 use mathlib.Core.List.{List}
 use mathlib.Core.Logic.{⊎-elim}
 use native.Mathlib.Omega.{arith}
-use lib.ListN.{length}
+use lib.ListN.{length, getD}
 use borrow.Author.Needs.{needs}
 use Rattle.refusal.specs.Limits.{groupMax}
+use Rattle.places.specs.Array.{entryOf}
 use Rattle.seeds.specs.Tried.{tried}
 use Rattle.seeds.proofs.Turns.{Passed, passed-start, passed-more, passed-out, passed-found, laid-next, dropped}
 use Rattle.seeds.proofs.Turns.{Turn, turn-start, turn-same, turn-all, turn-place, turn-other, turn-last}
-use Rattle.seeds.proofs.Turns.{next-first, turn-first, turn-second, turn-evict, turn-spent}
+use Rattle.seeds.proofs.Turns.{next-first, turn-next, turn-evict, turn-spent}
 use Rattle.seeds.proofs.least_seed.Statement.{statement}
 use Rattle.seeds.proofs.least_seed.Tie as tie
-use Rattle.seeds.proofs.least_seed.Reads as reads
-use Rattle.seeds.proofs.least_seed.Lts as lts
-use Rattle.seeds.proofs.size_of.Reads as size
-use Rattle.seeds.proofs.lay_out.Reads as laying
 
 abbrev Inv-evict : tie.InvT-evict
 Inv-evict tags limit places n next s occupied others₀ seated₀ place₀ other₀ left₀ others seated place other left =
@@ -36,7 +34,7 @@ abbrev μ-seeds : tie.MeasureT-seeds
 
 -- A turn of the inner loop with a tag still to be seated.
 abbrev Turning : Type 0
-Turning = lts.Else3 (size.Asked, size.Learnt, laying.Asked, laying.Learnt) reads.Pre reads.Post Inv-evict μ-evict Inv-seeds μ-seeds
+Turning = tie.Else3 Inv-evict μ-evict Inv-seeds μ-seeds
 
 abbrev tags : Turning → List ℕ
 tags c = c .before .before .before .before .before .before .before .before .before .before .before .args .tags .now
@@ -46,6 +44,15 @@ more c e = c .if3 .left (e ∙ sym (c .before .before .before .before .before .b
 
 place-below : (c : Turning) → c .before .evict .place < groupMax
 place-below c = turn-place (c .before .evict .inv) (more c)
+
+-- A tag more is seated, and another to be: its first place has a cell.
+next-below : (c : tie.Then5 Inv-evict μ-evict Inv-seeds μ-seeds)
+    → (let turning = c .before .before in
+    getD (turning .before .before .before .before .before .lay-out .last .1 .1 .1 .0) (turning .before .evict .seated + 1) 0 < groupMax)
+unfolding entryOf
+next-below c =
+    let free = c .before in
+    next-first (free .before .before .evict .inv) (more (free .before)) (free .if4 .taken) (omega arith)
 
 size-of-requires : tie.Need-size-of-requires Inv-evict μ-evict Inv-seeds μ-seeds
 size-of-requires c κs = search needs
@@ -138,22 +145,13 @@ element-copy-out-other-2 : tie.Need-element-copy-out-other-2 Inv-evict μ-evict 
 element-copy-out-other-2 c = search needs
 
 cast-if6 : tie.Need-cast-if6 Inv-evict μ-evict Inv-seeds μ-seeds
-cast-if6 c =
-    let free = c .before .before .before in
-    let below = next-first (free .before .before .evict .inv) (more (free .before)) (free .if4 .taken) (omega arith) in
-    record { fits = omega (arith, below) }
+cast-if6 c = record { fits = omega (arith, next-below (c .before .before)) }
 
 mul-if6 : tie.Need-mul-if6 Inv-evict μ-evict Inv-seeds μ-seeds
-mul-if6 c =
-    let free = c .before .before .before in
-    let below = next-first (free .before .before .evict .inv) (more (free .before)) (free .if4 .taken) (omega arith) in
-    omega (arith, below)
+mul-if6 c = omega (arith, next-below (c .before .before))
 
 array-read-if6 : tie.Need-array-read-if6 Inv-evict μ-evict Inv-seeds μ-seeds
-array-read-if6 c =
-    let free = c .before .before .before in
-    let below = next-first (free .before .before .evict .inv) (more (free .before)) (free .if4 .taken) (omega arith) in
-    omega (arith, below)
+array-read-if6 c = omega (arith, next-below (c .before .before))
 
 mul-left : tie.Need-mul-left Inv-evict μ-evict Inv-seeds μ-seeds
 mul-left c = search needs
@@ -165,14 +163,15 @@ evict-less : tie.Need-evict-less Inv-evict μ-evict Inv-seeds μ-seeds
 evict-less c = search needs
 
 evict-again : tie.Need-evict-again Inv-evict μ-evict Inv-seeds μ-seeds
+unfolding entryOf
 evict-again c =
     let free = c .before in
     let inv = free .before .before .evict .inv in
     let unseated = more (free .before) in
     ⊎-elim
-    (λ p. turn-same (p .4) (p .5) (turn-second inv unseated (free .if4 .taken) (omega (arith, p .0 .taken))))
+    (λ p. turn-same (p .4) (p .5) (turn-next inv unseated (free .if4 .taken) (omega (arith, p .0 .taken)) true))
     (λ rest. ⊎-elim
-    (λ p. turn-same (p .4) (p .5) (turn-first inv unseated (free .if4 .taken) (omega (arith, p .0 .taken))))
+    (λ p. turn-same (p .4) (p .5) (turn-next inv unseated (free .if4 .taken) (omega (arith, p .0 .taken)) false))
     (λ p. turn-same (p .1) (p .2) (turn-last inv unseated (free .if4 .taken) (omega (arith, p .0 .left))))
     rest)
     (c .if5 .came)

@@ -5,10 +5,11 @@ use mathlib.Core.Path.{_≡_, refl}
 use mathlib.Core.Option.{some, Option·map}
 use native.Mathlib.Omega.{arith}
 use borrow.Author.Needs.{needs}
+use Rattle.lists.specs.UpTo.{upTo}
 use Rattle.filling.specs.Least.{leastFrom, least}
 use Rattle.filling.specs.Word.{wordOf}
-use Rattle.insertion.specs.EntryLaws.{candidates-fewer}
-use Rattle.insertion.specs.Keys.{keysOf}
+use Rattle.places.specs.Array.{keysOf}
+use Rattle.places.specs.ArrayLaws.{candidates-fewer}
 use Rattle.insertion.specs.LeastWordLaws.{nothing-more}
 use Rattle.insertion.specs.Occupants.{occupantsOf, occupantsAfter}
 use Rattle.insertion.specs.OccupantsLaws.{occupants-none}
@@ -23,7 +24,7 @@ abbrev μ-loop : tie.MeasureT-loop
 μ-loop places count occupants₀ word₀ k₀ occupants word k = count - k
 
 loop-holds : tie.Need-loop-holds Inv-loop μ-loop
-unfolding keysOf least leastFrom wordOf
+unfolding upTo keysOf least leastFrom wordOf
 loop-holds c = (omega arith, refl, occupants-none _ _)
 
 with-key-requires : tie.Need-with-key-requires Inv-loop μ-loop

@@ -30,31 +30,23 @@ tags = 1 ∷ 3 ∷ []
 abbrev ends : List ℕ
 ends = 2 ∷ []
 
+-- What holds of index 0 holds of each index below 1.
+only : (P : ℕ → Type 0) → P 0 → (i : ℕ) → i < 1 → P i
+only P p zero lt = p
+only P p (suc i) lt = absurd (omega arith)
+
 plannable : Plannable 1 tags ends 2
 unfolding partStart partOf
 plannable = record {
-  parts = record { known = omega arith; follow = follow; inside = inside };
+  parts = record {
+    known = omega arith;
+    follow = only (λ g. partStart ends g ≤ getD ends g 0) (omega arith);
+    inside = only (λ g. getD ends g 0 ≤ length tags) (omega arith);
+  };
   limit-legal = (omega arith, omega arith);
-  few = few;
-  ascending = ascending;
+  few = only (λ g. length (partOf tags ends g) ≤ groupMax) (omega arith);
+  ascending = only (λ g. Ascending (partOf tags ends g)) (λ i within. only (λ i. getD tags i 0 < getD tags (suc i) 0) (omega arith) i (omega arith));
 }
-  where
-    follow : (g : ℕ) → g < 1 → partStart ends g ≤ getD ends g 0
-    follow zero lt = omega arith
-    follow (suc g) lt = absurd (omega arith)
-
-    inside : (g : ℕ) → g < 1 → getD ends g 0 ≤ length tags
-    inside zero lt = omega arith
-    inside (suc g) lt = absurd (omega arith)
-
-    few : (g : ℕ) → g < 1 → length (partOf tags ends g) ≤ groupMax
-    few zero lt = omega arith
-    few (suc g) lt = absurd (omega arith)
-
-    ascending : (g : ℕ) → g < 1 → Ascending (partOf tags ends g)
-    ascending zero lt zero within = omega arith
-    ascending zero lt (suc i) within = absurd (omega arith)
-    ascending (suc g) lt i within = absurd (omega arith)
 
 -- `unfolding computed` opens every definition that these compute through.
 computed : ℕ

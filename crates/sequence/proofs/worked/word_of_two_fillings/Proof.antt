@@ -1,6 +1,6 @@
 -- `sequence::worked::word_of_two_fillings` meets its contract: by the promise of `least_choices` the answer is the word that the
 -- definition computes to. Assumes nothing.
-use Prim.Native.Nat.{ℕ, zero, suc, _<_}
+use Prim.Native.Nat.{ℕ, zero, suc, _*_, _<_}
 use mathlib.Core.Path.{_≡_, refl, _∙_}
 use mathlib.Core.Bool.{Bool, true, false}
 use mathlib.Core.List.{List}
@@ -9,21 +9,21 @@ use native.Mathlib.Omega.{arith}
 use borrow.Author.Needs.{needs}
 use lib.ListN.{replicate, set}
 use Rattle.refusal.specs.Limits.{groupMax}
+use Rattle.lists.specs.UpTo.{upTo}
 use Rattle.lists.specs.Occurs.{occurs}
 use Rattle.filling.specs.Filling.{placeBy}
 use Rattle.filling.specs.Least.{beginning, leastFrom, least}
 use Rattle.filling.specs.Word.{choiceNumber, wordOf}
-use Rattle.insertion.specs.Entry.{entryOf, Candidates}
-use Rattle.insertion.specs.Keys.{keysOf}
+use Rattle.places.specs.Array.{entryOf, Candidates, keysOf}
 use Rattle.sequence.proofs.worked.word_of_two_fillings.Statement.{statement}
 use Rattle.sequence.proofs.worked.word_of_two_fillings.Tie as tie
 
 -- The array of the two keys.
 abbrev places : List ℕ
-places = set (set (replicate 48 0) 24 1) 25 1
+places = set (set (replicate (2 * groupMax) 0) groupMax 1) (suc groupMax) 1
 
 candidates : Candidates places 2
-unfolding entryOf choiceNumber
+unfolding entryOf
 candidates = record { size = refl; below = below }
   where
     below : (i : ℕ) → i < 2 → (choice : Bool) → entryOf places i choice < groupMax
@@ -34,7 +34,7 @@ candidates = record { size = refl; below = below }
     below (suc (suc i)) lt choice = absurd (omega arith)
 
 computed : Option·map wordOf (least (keysOf 2 places)) ≡ some 2
-unfolding keysOf least leastFrom beginning orElse occurs placeBy wordOf choiceNumber
+unfolding upTo entryOf keysOf least leastFrom beginning orElse occurs placeBy wordOf choiceNumber
 computed = refl
 
 same : {x y : ℕ} → some x ≡ some y → x ≡ y
