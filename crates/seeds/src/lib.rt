@@ -18,13 +18,42 @@ pub enum Found {
     Nothing,
 }
 
-// The number of tags of a group. The remainder changes nothing, and tells the compiler that it is a number of 32 bits, which it needs to
-// know to hash several tags at once.
+// Each number up to 24, as one of 32 bits.
+const SIZES: [u32; refusal::MEMBER_CELLS + 1] = [
+    0,
+    1,
+    2,
+    3,
+    4,
+    5,
+    6,
+    7,
+    8,
+    9,
+    10,
+    11,
+    12,
+    13,
+    14,
+    15,
+    16,
+    17,
+    18,
+    19,
+    20,
+    21,
+    22,
+    23,
+    24,
+];
+
+// The number of tags of a group. Read from a table, it is known to the compiler as a number of 32 bits, which it needs to hash several
+// tags at once.
 fn size_of(tags: &[u32]) -> u32
     requires { ⌜ length (now tags) ≤ groupMax ⌝ }
     ensures answer { λ r. ⌜ r ≡ length (now (tags .entry)) ⌝ }
 {
-    (tags.len() % 4294967296) as u32
+    SIZES[tags.len()]
 }
 
 // Lays out the candidate places of n tags under a seed, and answers the occupancy word.
