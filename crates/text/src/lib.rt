@@ -4,10 +4,9 @@ use columns::Fours;
 use refusal::First;
 use refusal::TAG_CELLS;
 ghost use mathlib.Core.Path.{_≡_};
-ghost use mathlib.Core.Bool.{cond};
 ghost use mathlib.Core.List.{[], _∷_};
 ghost use Prim.Native.Nat.{_+_, _*_, _%_, _≤_, _<_};
-ghost use lib.Dec.{eqb, ltb};
+ghost use lib.Dec.{ltb};
 ghost use lib.ListN.{length, take, drop};
 ghost use Rattle.refusal.specs.Limits.{tagEnd, tagsMax};
 ghost use Rattle.lists.specs.First.{first};
@@ -115,14 +114,7 @@ pub fn read_field(bytes: &[u8], at: usize, width: usize) -> Field
     Field::Value(v * 10 + digit as u64)
 }
 
-// The byte of a column before the last: the last digit of what is left to write, or a space where nothing is.
-fn leading_byte(rest: u64) -> u8
-    ensures answer { λ r. ⌜ r ≡ cond (eqb rest 0) 32 (48 + rest % 10) ⌝ }
-{
-    column_byte(rest, (rest % 10) as u8)
-}
-
-// Writes the figure of n over the whole slice, from the right.
+// Writes the figure of n over the whole slice, from the right: in each column the last digit of what is left to write.
 fn write_figure(s: &mut [u8], n: u64)
     ensures bytes { λ _. ⌜ now (s .exit) ≡ figure (length (now (s .entry))) n ⌝ }
 {
@@ -135,7 +127,7 @@ fn write_figure(s: &mut [u8], n: u64)
     let mut rest = n / 10;
     while 0 < i {
         i -= 1;
-        s[i] = leading_byte(rest);
+        s[i] = column_byte(rest, (rest % 10) as u8);
         rest /= 10;
     }
 }
