@@ -8,21 +8,18 @@ use lib.ListN.{length, getD}
 use lib.Seq.{ext-getD}
 use borrow.Author.Tests.{eq-eqb, ne-eqb}
 use Rattle.hash.specs.Formula.{hashed, multiplier, placeOf}
-use Rattle.hash.specs.FormulaLaws.{place-below}
 use Rattle.lists.specs.Occurs.{distinct}
-use Rattle.lists.specs.OccursLaws.{occurs-not, distinct-head, distinct-tail, getD-occurs, occurs-getD, distinct-getD, onto}
-use Rattle.filling.specs.Filling.{placeBy, chosen, Fills}
-use Rattle.filling.specs.FillingLaws.{chosen-length, chosen-at, chosen-candidate}
-use Rattle.filling.specs.Word.{choiceNumber}
+use Rattle.lists.specs.OccursLaws.{occurs-not, distinct-head, distinct-tail, getD-occurs, occurs-getD, distinct-getD}
+use Rattle.filling.specs.Filling.{placeBy, Fills}
 use Rattle.filling.specs.LeastLaws.{feasible-fills}
 use Rattle.group.specs.Group.{bothPlaces, groupUnder, taken}
-use Rattle.group.specs.GroupLaws.{candidates-length, candidate-place, each-candidate, fills-length, taken-fills}
+use Rattle.group.specs.GroupLaws.{fills-length, taken-fills}
 use Rattle.bits.specs.WordBits.{choiceIn}
 use Rattle.bits.specs.WordBitsLaws.{word-choice}
 use Rattle.lists.specs.UpTo.{upTo}
 use Rattle.lists.specs.UpToLaws.{upTo-length, upTo-at}
 use Rattle.numbering.specs.Number.{choiceOf, placeIn, tagNumbered}
-use Rattle.numbering.specs.NumberLaws.{ImageOf, place-apart, place-inside, tagNumbered-is}
+use Rattle.numbering.specs.NumberLaws.{ImageOf, image-onto, place-apart, place-inside, some-listed, tagNumbered-is}
 use Rattle.numbering.specs.GroupSlots.{groupSlots}
 use Rattle.arrange.specs.Arrange.{Arrangeable}
 
@@ -44,12 +41,6 @@ hashed-choice : (n seed t : ℕ) (choice : Bool)
 unfolding placeBy bothPlaces placeOf
 hashed-choice n seed t false = refl
 hashed-choice n seed t true = refl
-
--- The place that a choice takes, by the choice's number.
-place-by-number : (n seed t : ℕ) (choice : Bool) → placeBy choice (bothPlaces n seed t) ≡ placeOf n seed (choiceNumber choice) t
-unfolding placeBy bothPlaces choiceNumber
-place-by-number n seed t false = refl
-place-by-number n seed t true = refl
 
 -- The place of the tag with index i, under the sequence taken.
 abbrev pub placeWith : List ℕ → ℕ → ℕ → ℕ
@@ -87,33 +78,12 @@ module _ {part : List ℕ} {seed word room : ℕ} (a : Arrangeable part seed wor
       distinct-getD part (a .differ) i j li lj
       (apart (getD part i 0) (getD part j 0) (getD-occurs part i li) (getD-occurs part j lj) e)
 
-  -- The place of the tag with index i is the place chosen for it.
-  chosen-place : (i : ℕ) → i < length part → getD (chosen (groupUnder part seed) (taken part seed)) i 0 ≡ placeWith part seed i
-  unfolding placeIn
-  chosen-place i lt =
-      let cs = taken part seed in
-      chosen-at (groupUnder part seed) cs i (arranged-fills .whole) (omega (arith, candidates-length (length part) seed part))
-      ∙ candidate-place (length part) seed part i (getD cs i false) lt
-      ∙ rw (choiceOf-at part cs i (a .differ) choices-whole lt)
-      (sym (place-by-number (length part) seed (getD part i 0) (getD cs i false)))
-
   -- Each place is some tag's.
   place-reached : (j : ℕ) → j < length part → ImageOf (placeIn part seed (taken part seed)) part j
-  place-reached j lt =
-      let n = length part in
-      let keys = groupUnder part seed in
-      let cs = taken part seed in
-      let whole = arranged-fills .whole in
-      let many = chosen-length keys cs whole ∙ candidates-length n seed part in
-      let low = each-candidate (λ x. x < n) n seed part (λ i c li. place-below n seed c (getD part i 0) (omega arith)) in
-      let below = chosen-candidate (λ x. x < n) keys cs whole low in
-      let at = occurs-getD (chosen keys cs) j (onto n (chosen keys cs) many (arranged-fills .apart) below j lt) in
-      let inside : at .index < n = omega (arith, many, at .inside) in
-      record {
-        from = getD part (at .index) 0;
-        listed = getD-occurs part (at .index) inside;
-        value = sym (chosen-place (at .index) inside) ∙ at .value;
-      }
+  place-reached =
+      image-onto (placeIn part seed (taken part seed)) part (a .differ)
+      (place-apart part seed (taken part seed) (a .differ) arranged-fills)
+      (λ t m. place-inside part seed (taken part seed) t (some-listed part t m))
 
   -- Cells that have each tag at its place, and no more cells, are the group's slots.
   pub slots-of-places : (cells : List ℕ) → length cells ≡ length part

@@ -10,6 +10,11 @@ use Rattle.lists.specs.OccursLaws.{pigeonhole, occurs-getD, distinct-getD, getD
 use Rattle.filling.specs.Filling.{Key, chosen, Fills, EachCandidate}
 use Rattle.filling.specs.Separate.{byIndex, keyPlace, Apart}
 
+-- Only the places that keys take count for whether any two take one.
+pub separate-same : {a b : ℕ → ℕ} {n : ℕ} → ((i : ℕ) → i < n → a i ≡ b i)
+    → ((i j : ℕ) → i < n → j < n → a i ≡ a j → i ≡ j) → (i j : ℕ) → i < n → j < n → b i ≡ b j → i ≡ j
+separate-same same apart i j li lj e = apart i j li lj (same i li ∙ e ∙ sym (same j lj))
+
 -- One place is chosen for each key.
 pub chosen-length : (keys : List Key) (cs : List Bool) → length cs ≡ length keys → length (chosen keys cs) ≡ length keys
 unfolding chosen
@@ -36,20 +41,17 @@ chosen-candidate P keys cs l each x t =
 
 -- Under a sequence that fills, no two keys take one place.
 pub fills-apart : (keys : List Key) (cs : List Bool) → Fills keys cs → Apart keys (length keys) cs
-fills-apart keys cs f i j li lj e =
-    let l = chosen-length keys cs (f .whole) in
-    let same = chosen-at keys cs i (f .whole) li ∙ e ∙ sym (chosen-at keys cs j (f .whole) lj) in
-    distinct-getD (chosen keys cs) (f .apart) i j (omega arith) (omega arith) same
+fills-apart keys cs f =
+    separate-same (λ i lt. chosen-at keys cs i (f .whole) lt)
+    (rw (chosen-length keys cs (f .whole)) at (distinct-getD (chosen keys cs) (f .apart)))
 
 -- A sequence with a choice for each key under which no two keys take one place fills.
 pub apart-fills : (keys : List Key) (cs : List Bool) → length cs ≡ length keys → Apart keys (length keys) cs → Fills keys cs
 apart-fills keys cs l apart = record {
   whole = l;
-  apart = getD-distinct (chosen keys cs) (λ i j li lj e.
-      let m = chosen-length keys cs l in
-      let ki : i < length keys = omega arith in
-      let kj : j < length keys = omega arith in
-      apart i j ki kj (sym (chosen-at keys cs i l ki) ∙ e ∙ chosen-at keys cs j l kj));
+  apart =
+      getD-distinct (chosen keys cs)
+      (rw (chosen-length keys cs l) (separate-same (λ i lt. sym (chosen-at keys cs i l lt)) apart));
 }
 
 -- k keys that some sequence fills have at least k candidate places, however many places there are.

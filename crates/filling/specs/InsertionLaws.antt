@@ -9,6 +9,7 @@ use native.Mathlib.Omega.{arith}
 use lib.Dec.{eqb}
 use borrow.Author.Tests.{eq-eqb, ne-eqb}
 use Rattle.filling.specs.Separate.{Separate}
+use Rattle.filling.specs.FillingLaws.{separate-same}
 use Rattle.filling.specs.Weight.{choiceWeight, total}
 use Rattle.filling.specs.WeightLaws.{total-same, count-most, total-change}
 use Rattle.filling.specs.Insertion.{distance, Toggled, Moved, SeparateBut, Lightest, LightestWith, NoneWith, Occupies, Unoccupied}
@@ -432,11 +433,8 @@ pub lightest-same : (place place′ : ℕ → Bool → ℕ) (weight : ℕ → �
     → ((i : ℕ) → i < n → (b : Bool) → place i b ≡ place′ i b) → ((i : ℕ) → i < n → c i ≡ d i)
     → Lightest place weight n c → Lightest place′ weight n d
 lightest-same place place′ weight n c d places choices old = record {
-  separate = λ i j li lj e. old .separate i j li lj (one i li ∙ e ∙ sym (one j lj));
+  separate = separate-same (λ i lt. ap (place i) (choices i lt) ∙ places i lt (d i)) (old .separate);
   lightest = λ f all.
-      let le = old .lightest f (λ i j li lj e. all i j li lj (sym (places i li (f i)) ∙ e ∙ places j lj (f j))) in
+      let le = old .lightest f (separate-same (λ i lt. sym (places i lt (f i))) all) in
       omega (arith, le, total-same weight weight c d n (λ i lt. refl) choices);
 }
-  where
-    one : (i : ℕ) → i < n → place i (c i) ≡ place′ i (d i)
-    one i lt = ap (place i) (choices i lt) ∙ places i lt (d i)

@@ -11,7 +11,7 @@ use Rattle.lists.specs.UpTo.{upTo}
 use Rattle.lists.specs.UpToLaws.{upTo-length, upTo-at}
 use Rattle.filling.specs.Filling.{Key, Fills}
 use Rattle.filling.specs.Separate.{byIndex, keyPlace, Separate}
-use Rattle.filling.specs.FillingLaws.{apart-fills, fills-apart}
+use Rattle.filling.specs.FillingLaws.{separate-same, apart-fills, fills-apart}
 use Rattle.filling.specs.Least.{least}
 use Rattle.filling.specs.LeastLaws.{least-only, least-fills, least-least, notAfter-antisym}
 use Rattle.filling.specs.Weight.{keyWeight, choiceWeight, total}
@@ -37,11 +37,8 @@ lightest-least keys cs l few light =
 -- Choices that separate the keys fill, as a sequence.
 pub separate-fills : (keys : List Key) (f : ℕ → Bool) → Separate (keyPlace keys) (length keys) f → Fills keys (upTo (length keys) f)
 separate-fills keys f apart =
-    apart-fills keys (upTo (length keys) f) (upTo-length (length keys) f) (λ i j li lj e.
-    apart i j li lj (sym (at i li) ∙ e ∙ at j lj))
-  where
-    at : (i : ℕ) → i < length keys → keyPlace keys i (byIndex (upTo (length keys) f) i) ≡ keyPlace keys i (f i)
-    at i lt = rw (upTo-at (length keys) f false i lt)
+    apart-fills keys (upTo (length keys) f) (upTo-length (length keys) f)
+    (separate-same (λ i lt. ap (keyPlace keys i) (sym (upTo-at (length keys) f false i lt))) apart)
 
 -- The least sequence is the lightest: what separates the keys does not come before it, so it is not lighter.
 pub least-lightest : (keys : List Key) {cs : List Bool} → length keys ≤ 32 → least keys ≡ some cs

@@ -73,7 +73,7 @@ module _ (tags : List ℕ) where
   taken-of-least s e = rw e
 
   -- There is one where any sequence fills.
-  least-of-fills : (s : ℕ) (cs : List Bool) → Fills (groupUnder tags s) cs → least (groupUnder tags s) ≡ some (taken tags s)
+  pub least-of-fills : (s : ℕ) (cs : List Bool) → Fills (groupUnder tags s) cs → least (groupUnder tags s) ≡ some (taken tags s)
   unfolding feasible
   least-of-fills s cs f =
       let (ds, e) = some-of-isSome (least (groupUnder tags s)) (fills-feasible (groupUnder tags s) cs f) in

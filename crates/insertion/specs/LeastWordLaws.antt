@@ -8,7 +8,7 @@ use native.Mathlib.Omega.{arith}
 use lib.ListN.{length}
 use Rattle.lists.specs.UpTo.{upTo}
 use Rattle.filling.specs.Separate.{byIndex, keyPlace, Separate}
-use Rattle.filling.specs.FillingLaws.{fills-apart}
+use Rattle.filling.specs.FillingLaws.{separate-same, fills-apart}
 use Rattle.filling.specs.Word.{wordOf, choicesOf}
 use Rattle.filling.specs.WordLaws.{choicesOf-length, choices-word, word-below}
 use Rattle.filling.specs.Least.{least}
@@ -26,21 +26,6 @@ use Rattle.insertion.specs.Inserted.{LightestWord}
 module _ (places : List ℕ) (count : ℕ) where
   sized : length (keysOf count places) ≡ count
   sized = keysOf-length count places
-
-  -- What separates the keys of the list separates those of the array,
-  array-separate : (f : ℕ → Bool) → Separate (keyPlace (keysOf count places)) (length (keysOf count places)) f
-      → Separate (entryOf places) count f
-  array-separate f apart i j li lj e =
-      apart i j (omega (arith, sized)) (omega (arith, sized))
-      (keysOf-place count places i li (f i) ∙ e ∙ sym (keysOf-place count places j lj (f j)))
-
-  -- and the other way round.
-  list-separate : (f : ℕ → Bool) → Separate (entryOf places) count f
-      → Separate (keyPlace (keysOf count places)) (length (keysOf count places)) f
-  list-separate f apart i j li lj e =
-      let bi : i < count = omega (arith, sized) in
-      let bj : j < count = omega (arith, sized) in
-      apart i j bi bj (sym (keysOf-place count places i bi (f i)) ∙ e ∙ keysOf-place count places j bj (f j))
 
   -- The lightest word of all keys is that of the least sequence,
   pub lightest-word : (word : ℕ) → count ≤ 32 → LightestWord places count word
@@ -85,8 +70,8 @@ module _ (places : List ℕ) (count : ℕ) where
       go : (o : Option (List Bool)) → least (keysOf count places) ≡ o → none ≡ Option·map wordOf o
       go none e = refl
       go (some cs) e =
-          let fills = least-fills (keysOf count places) e in
-          absurd (nothing (byIndex cs) (array-separate (byIndex cs) (fills-apart (keysOf count places) cs fills)))
+          let apart = rw sized at (fills-apart (keysOf count places) cs (least-fills (keysOf count places) e)) in
+          absurd (nothing (byIndex cs) (separate-same (λ i lt. keysOf-place count places i lt (byIndex cs i)) apart))
 
 -- Where some keys have none, more keys have none.
 pub nothing-more : (places : List ℕ) (count more : ℕ) → count ≤ more → none ≡ Option·map wordOf (least (keysOf count places))
@@ -99,5 +84,6 @@ nothing-more places count more le nothing =
         → (f : ℕ → Bool) → Separate (entryOf places) count f → ⊥
     go none e z f apart =
         least-none (keysOf count places) e (upTo (length (keysOf count places)) f)
-        (separate-fills (keysOf count places) f (list-separate places count f apart))
+        (separate-fills (keysOf count places) f
+        (rw (keysOf-length count places) (separate-same (λ i lt. sym (keysOf-place count places i lt (f i))) apart)))
     go (some cs) e z f apart = let n : _≡_ {A = ℕ} 0 1 = cc in omega arith

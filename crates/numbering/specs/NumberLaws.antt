@@ -74,6 +74,16 @@ distinct-map f (z ∷ zs) d x y m n e =
     go (inr p) (inl q) rest = absurd (off x p (e ∙ ap f q))
     go (inr p) (inr q) rest = rest p q
 
+-- Numbers below a list's length that are different for different elements are all numbers below it.
+pub image-onto : (f : ℕ → ℕ) (xs : List ℕ) → distinct xs ≡ true
+    → ((x y : ℕ) → occurs x xs ≡ true → occurs y xs ≡ true → f x ≡ f y → x ≡ y) → ((x : ℕ) → occurs x xs ≡ true → f x < length xs)
+    → (j : ℕ) → j < length xs → ImageOf f xs j
+image-onto f xs d apart below j lt =
+    occurs-map f xs j (onto (length xs) (map f xs) (length-map xs f) (map-distinct f xs d apart) low j lt)
+  where
+    low : (y : ℕ) → occurs y (map f xs) ≡ true → y < length xs
+    low y m = let r = occurs-map f xs y m in omega (arith, below (r .from) (r .listed), r .value)
+
 -- In each group the places are all different and below n.
 pub record Placed (groups : ℕ) (tags : List ℕ) (place : ℕ → ℕ) : Type 0 where
   pub some-group : 0 < groups
@@ -121,14 +131,7 @@ module _ {groups : ℕ} {tags : List ℕ} {place : ℕ → ℕ} (p : Placed grou
 
   -- and "each number below N belongs to" one of them.
   pub number-onto : (j : ℕ) → j < length tags → ImageOf (numbered groups tags place) tags j
-  number-onto j lt =
-      let f = numbered groups tags place in
-      occurs-map f tags j (onto (length tags) (map f tags) (length-map tags f) (map-distinct f tags (p .differ) number-apart) low j lt)
-    where
-      low : (x : ℕ) → occurs x (map (numbered groups tags place) tags) ≡ true → x < length tags
-      low x m =
-          let r = occurs-map (numbered groups tags place) tags x m in
-          omega (arith, number-below (r .from) (r .listed), r .value)
+  number-onto = image-onto (numbered groups tags place) tags (p .differ) number-apart number-below
 
 -- Maps of a list that agree on its elements agree.
 map-agree : {A : Type 0} (f h : ℕ → A) (xs : List ℕ) → ((x : ℕ) → occurs x xs ≡ true → f x ≡ h x) → map f xs ≡ map h xs
