@@ -7,12 +7,14 @@ use native.Mathlib.Numerals.{add-one}
 use native.Mathlib.Omega.{arith}
 use lib.ListN.{length, getD, set, drop, length-append, length-drop, List·getD-append}
 use lib.Seq.{drop-cons, set-at, append-snoc}
+use borrow.Author.Tests.{le-ltb}
 use Rattle.refusal.specs.Limits.{groupMax, limitMax}
 use Rattle.refusal.specs.LimitsLaws.{outside-not}
 use Rattle.refusal.specs.Outcome.{answered, refused}
 use Rattle.group.specs.Group.{leastSeed}
-use Rattle.group.specs.Placing.{Placement, placementOf, placingOf}
-use Rattle.group.specs.Ascending.{Ascending}
+use Rattle.refusal.specs.ChecksLaws.{_then_, met-false}
+use Rattle.group.specs.Placing.{Placement, placingChecks, placementOf, placingOf}
+use Rattle.group.specs.Ascending.{limitCheck, ascendingCheck, Ascending}
 use Rattle.group.specs.AscendingLaws.{check-of-ascending}
 use Rattle.lists.specs.UpTo.{upTo}
 use Rattle.lists.specs.UpToLaws.{upTo-length, upTo-at, upTo-more}
@@ -22,10 +24,13 @@ use Rattle.plan.specs.Plan.{cellsPlanned}
 -- Placing a part that planning is given is refused for want of a seed only.
 module _ (part : List ℕ) (limit : ℕ) (legal : (1 ≤ limit) × (limit ≤ limitMax)) (few : length part ≤ groupMax) (up : Ascending part) where
   placeable : Placeable part limit
+  unfolding placingChecks limitCheck ascendingCheck
   placeable = record {
-    limit-legal = outside-not 1 limitMax limit (legal .0) (legal .1);
-    few = few;
-    ascending = check-of-ascending part up;
+    passes =
+        met-false (outside-not 1 limitMax limit (legal .0) (legal .1))
+        then met-false (le-ltb groupMax (length part) few)
+        then check-of-ascending part up
+        then tt;
   }
 
   pub placed-seed : {placement : Placement} → placingOf part limit ≡ answered placement

@@ -2,42 +2,50 @@
 -- taken fills, so its word is what `least_choices` answers. Assumes nothing.
 use Prim.Native.Nat.{ℕ}
 use mathlib.Core.Path.{_≡_, refl, sym, _∙_, ap}
-use mathlib.Core.Bool.{false}
 use mathlib.Core.List.{List}
 use mathlib.Core.Option.{none, some}
 use lib.ListN.{length}
 use borrow.Author.Needs.{needs}
+use borrow.Author.Tests.{lt-ltb, le-ltb}
 use Rattle.refusal.specs.Answer.{firstMeaning}
-use Rattle.refusal.specs.Limits.{limitMax, outside}
-use Rattle.refusal.specs.LimitsLaws.{inside}
+use Rattle.refusal.specs.Checks.{Check, Pass}
+use Rattle.refusal.specs.ChecksLaws.{met-true, met-false, checksBefore, passed-on}
 use Rattle.filling.specs.Word.{wordOf}
 use Rattle.places.specs.Array.{Candidates, keysOf}
+use Rattle.group.specs.Ascending.{limitCheck, ascendingCheck}
+use Rattle.group.specs.Placing.{placingChecks}
 use Rattle.group.specs.Group.{groupUnder, leastSeed, taken}
 use Rattle.group.specs.GroupLaws.{leastSeed-some}
 use Rattle.seeds.specs.Answer.{foundMeaning}
 use Rattle.sequence.specs.Answer.{choicesMeaning}
 use Rattle.sequence.specs.TakenLaws.{word-taken}
 use Rattle.placing.specs.PlacesLaws.{left-places}
-use Rattle.placing.specs.PlacingLaws.{Placeable, placing-limit, placing-large, placing-descends, placing-unseeded, placing-seeded}
+use Rattle.placing.specs.PlacingLaws.{placing-refused, Placeable, limit-legal, few, placing-unseeded, placing-seeded}
 use Rattle.placing.proofs.place_group.Statement.{statement}
 use Rattle.placing.proofs.place_group.Tie as tie
 
--- The limit is legal.
-legal : (c : tie.Else1) → outside 1 limitMax (c .before .before .before .args .limit) ≡ false
-legal c = sym (c .before .outside .ensures) ∙ c .if1 .left
+-- What has passed behind each check.
+abbrev checks : tie.Start → List Check
+checks e = placingChecks (e .args .tags .now) (e .args .limit)
 
--- The checks before the last are passed.
+passed-4 : (c : tie.Else1) → Pass (checksBefore 5 (checks (c .before .before .before)))
+unfolding placingChecks limitCheck ascendingCheck
+passed-4 c = passed-on (checks (c .before .before .before)) 4 5 refl tt (met-false (sym (c .before .outside .ensures) ∙ c .if1 .left))
+
+passed-5 : (c : tie.Else2) → Pass (checksBefore 6 (checks (c .before .before .before .before)))
+unfolding placingChecks limitCheck ascendingCheck
+passed-5 c =
+    passed-on (checks (c .before .before .before .before)) 5 6 refl (passed-4 (c .before)) (met-false (le-ltb _ _ (c .if2 .left)))
+
 abbrev entry : tie.After-enum-told → tie.Start
 entry c = c .before .before .before .before .before .before .before
 
 placeable : (c : tie.After-enum-told) → Placeable (entry c .args .tags .now) (entry c .args .limit)
+unfolding placingChecks limitCheck ascendingCheck
 placeable c =
     let compared = c .before .before in
-    record {
-      limit-legal = legal (compared .before .before);
-      few = compared .before .if2 .left;
-      ascending = sym (compared .first-not-above .ensures) ∙ ap firstMeaning (c .enum-told .given .1);
-    }
+    let up = sym (compared .first-not-above .ensures) ∙ ap firstMeaning (c .enum-told .given .1) in
+    record { passes = passed-on (checks (entry c)) 6 7 refl (passed-5 (compared .before)) up }
 
 -- A seed is found, and the candidate places under it are in the cells.
 abbrev passed : tie.After-seed → tie.After-enum-told
@@ -58,7 +66,7 @@ cells c = c .before .before .least-seed .last .1 .1 .0
 left : (c : tie.After-seed) → Candidates (cells c) (length (tags c)) × (keysOf (length (tags c)) (cells c) ≡ groupUnder (tags c) (seed c))
 left c =
     let laid = rw (c .seed .given .1) at (c .before .before .least-seed .ensures .1) in
-    left-places (tags c) _ (placeable (passed c) .few) refl (seed c) _ laid
+    left-places (tags c) _ (few (placeable (passed c))) refl (seed c) _ laid
 
 -- The word answered is that of the sequence taken.
 word-is : (c : tie.After-least-choices)
@@ -76,9 +84,10 @@ refuse-requires : tie.Need-refuse-requires
 refuse-requires c κs = search needs
 
 returns : tie.Need-returns
+unfolding placingChecks limitCheck ascendingCheck
 returns c =
     let ranged = c .before .before in
-    c .refuse .ensures ∙ sym (placing-limit _ _ (sym (ranged .outside .ensures) ∙ c .before .if1 .taken))
+    c .refuse .ensures ∙ sym (placing-refused _ _ 4 tt (met-true (sym (ranged .outside .ensures) ∙ c .before .if1 .taken)))
 
 cast-if2 : tie.Need-cast-if2
 cast-if2 c = search needs
@@ -87,7 +96,9 @@ refuse-requires-2 : tie.Need-refuse-requires-2
 refuse-requires-2 c κs = search needs
 
 returns-2 : tie.Need-returns-2
-returns-2 c = c .refuse2 .ensures ∙ sym (placing-large _ _ (legal (c .before .before)) (c .before .if2 .taken))
+unfolding placingChecks limitCheck ascendingCheck
+returns-2 c =
+    c .refuse2 .ensures ∙ sym (placing-refused _ _ 5 (passed-4 (c .before .before)) (met-true (lt-ltb _ _ (c .before .if2 .taken))))
 
 first-not-above-requires : tie.Need-first-not-above-requires
 first-not-above-requires c κs = search needs
@@ -99,11 +110,12 @@ refuse-requires-3 : tie.Need-refuse-requires-3
 refuse-requires-3 c κs = search needs
 
 returns-3 : tie.Need-returns-3
+unfolding placingChecks limitCheck ascendingCheck
 returns-3 c =
     let met = c .before .before in
     let compared = met .before .before in
     c .refuse3 .ensures
-    ∙ sym (placing-descends _ _ (legal (compared .before .before)) (compared .before .if2 .left)
+    ∙ sym (placing-refused _ _ 6 (passed-5 (compared .before))
     (sym (compared .first-not-above .ensures) ∙ ap firstMeaning (met .i .given .1)))
 
 enum-told : tie.Need-enum-told
@@ -112,7 +124,7 @@ enum-told c = search needs
 least-seed-requires : tie.Need-least-seed-requires
 least-seed-requires c κs =
     let p = placeable (c .before) in
-    (p .few, inside 1 _ _ (p .limit-legal) .1, refl)
+    (few p, limit-legal p .1, refl)
 
 enum-known-seed : tie.Need-enum-known-seed
 enum-known-seed c = search needs
@@ -138,7 +150,7 @@ cast-least-choices c = search needs
 least-choices-requires : tie.Need-least-choices-requires
 least-choices-requires c κs =
     let found = c .before .before in
-    (placeable (passed found) .few, left found .0)
+    (few (placeable (passed found)), left found .0)
 
 enum-known-word : tie.Need-enum-known-word
 enum-known-word c = search needs
