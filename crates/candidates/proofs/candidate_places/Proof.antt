@@ -1,6 +1,6 @@
 -- `candidates::candidate_places` meets its contract: the first places, and behind them the second. Assumes nothing.
 use Prim.Native.Nat.{ℕ}
-use mathlib.Core.Path.{_≡_, refl, _∙_, ap}
+use mathlib.Core.Path.{_≡_, refl, _∙_}
 use mathlib.Core.Bool.{Bool, true, false}
 use mathlib.Core.List.{List, [], _∷_, map}
 use native.Mathlib.Omega.{arith}
@@ -38,14 +38,11 @@ lay-requires-2 c κs =
     let laid = c .before .before in
     let first = laid .before .before in
     let a = first .before .before .args in
-    let f = hashed (first .multiplier .result) (a .n) in (
-      omega arith,
-      omega arith,
-      ap length (laid .lay .ensures)
-          ∙ length-paste (a .places .now) 0 (map f (a .tags .now)) (length (a .tags .now)) (omega arith)
-          (omega (arith, length-map (a .tags .now) f))
-          ∙ omega arith,
-    )
+    let f = hashed (first .multiplier .result) (a .n) in
+    let kept =
+    length-paste (a .places .now) 0 (map f (a .tags .now)) (length (a .tags .now)) (omega arith)
+    (omega (arith, length-map (a .tags .now) f)) in
+    (omega arith, omega arith, rw (laid .lay .ensures) (kept ∙ omega arith))
 
 returns : tie.Need-returns
 unfolding laidInto choiceNumber

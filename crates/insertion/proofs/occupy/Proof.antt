@@ -4,8 +4,7 @@ use mathlib.Core.Path.{_≡_, refl}
 use native.Mathlib.Omega.{arith}
 use borrow.Author.Needs.{needs}
 use Rattle.refusal.specs.Limits.{groupMax}
-use Rattle.bits.specs.WordBits.{choiceIn}
-use Rattle.insertion.specs.Occupants.{Occupied}
+use Rattle.insertion.specs.Occupants.{placeTaken, Occupied}
 use Rattle.insertion.specs.OccupantsLaws.{Cleared, cleared-turn, occupied-none, separate-free, occupied-more, occupied-only}
 use Rattle.insertion.proofs.occupy.Statement.{statement}
 use Rattle.insertion.proofs.occupy.Tie as tie
@@ -21,6 +20,14 @@ Inv-loop2 places word count occupants₀ v i₀ occupants i = (i ≤ count) × O
 
 abbrev μ-loop2 : tie.MeasureT-loop2
 μ-loop2 places word count occupants₀ v i₀ occupants i = count - i
+
+-- The function's entry, from the second loop; and in its turn the place of key i has a cell.
+abbrev entry : tie.At-loop2 Inv-loop μ-loop Inv-loop2 μ-loop2 → tie.Start Inv-loop μ-loop Inv-loop2 μ-loop2
+entry c = c .before .before .before .before
+
+below : (c : tie.In-loop2 Inv-loop μ-loop Inv-loop2 μ-loop2)
+    → (let a = entry (c .before) .args in placeTaken (a .places .now) (a .word) (c .before .loop2 .i) < groupMax)
+below c = entry (c .before) .pre .0 .1 .below (c .before .loop2 .i) (c .loop2-test .taken) _
 
 loop-holds : tie.Need-loop-holds Inv-loop μ-loop Inv-loop2 μ-loop2
 loop-holds c = (omega arith, record { size = c .before .pre .0 .2; clear = λ u lt. absurd (omega arith) })
@@ -61,11 +68,7 @@ mul-occupants-2 : tie.Need-mul-occupants-2 Inv-loop μ-loop Inv-loop2 μ-loop2
 mul-occupants-2 c = search needs
 
 element-write-occupants-2 : tie.Need-element-write-occupants-2 Inv-loop μ-loop Inv-loop2 μ-loop2
-element-write-occupants-2 c =
-    let at = c .before .before in
-    let start = at .before .before .before .before in
-    let i = at .loop2 .i in
-    omega (arith, c .place-taken .ensures, start .pre .0 .1 .below i (omega arith) (choiceIn (start .args .word) i))
+element-write-occupants-2 c = omega (arith, c .place-taken .ensures, below (c .before))
 
 add-i : tie.Need-add-i Inv-loop μ-loop Inv-loop2 μ-loop2
 add-i c = search needs
@@ -75,19 +78,15 @@ loop2-less c = search needs
 
 loop2-again : tie.Need-loop2-again Inv-loop μ-loop Inv-loop2 μ-loop2
 loop2-again c =
-    let at = c .before .before in
-    let start = at .before .before .before .before in
-    let i = at .loop2 .i in
-    let w = start .args .word in
-    let more : i < start .args .count = c .before .loop2-test .taken in
-    let below = start .pre .0 .1 .below i more (choiceIn w i) in
-    let free = separate-free _ (at .loop2 .inv .1) (start .args .count) more (start .pre .1) in
-    (omega arith, rw (c .place-taken .ensures) (occupied-more _ (at .loop2 .inv .1) _ refl below free))
+    let turn = c .before in
+    let inv = turn .before .loop2 .inv in
+    let free = separate-free _ (inv .1) (entry (turn .before) .args .count) (turn .loop2-test .taken) (entry (turn .before) .pre .1) in
+    (omega arith, rw (c .place-taken .ensures) (occupied-more _ (inv .1) _ refl (below turn) free))
 
 returns : tie.Need-returns Inv-loop μ-loop Inv-loop2 μ-loop2
 returns c =
     let at = c .before .loop2 in
-    let all : at .i ≡ c .before .before .before .before .before .args .count = omega arith in
+    let all : at .i ≡ entry (c .before) .args .count = omega arith in
     occupied-only _ (rw all at (at .inv .1))
 
 pub occupy-spec : {M : Type 1} → statement M
