@@ -15,7 +15,8 @@ use Rattle.refusal.specs.Outcome.{answered, refused}
 use Rattle.lists.specs.First.{first, isSome}
 use Rattle.lists.specs.FirstLaws.{first-some, first-none, first-found, first-out, none-of-isSome}
 use Rattle.refusal.specs.Checks.{Check, met, Pass}
-use Rattle.refusal.specs.ChecksLaws.{_then_, met-false, false-of-met, Met, passed, pass-split, met-behind, inOrder-pass, inOrder-answered, inOrder-refused}
+use Rattle.refusal.specs.ChecksLaws.{_then_, met-false, false-of-met, Met, passed, pass-split, met-behind, inOrder-pass}
+use Rattle.refusal.specs.ChecksLaws.{inOrder-answered, inOrder-refused}
 use Rattle.text.specs.Line.{lineLength}
 use Rattle.lists.specs.Occurs.{occurs}
 use Rattle.group.specs.Group.{leastSeed, taken}
@@ -32,7 +33,8 @@ use Rattle.numbering.specs.Members.{members}
 use Rattle.numbering.specs.MembersLaws.{start-all, start-before}
 use Rattle.numbering.specs.Number.{numberOf, tagNumbered}
 use Rattle.numbering.specs.NumberLaws.{number-below, number-apart, number-onto, AllFill, all-placed, tagNumbered-is}
-use Rattle.numbering.specs.Building.{sheetOf, seedTaken, choicesTaken, imageOf, tooLarge, seedless, earlierChecks, buildingChecks, buildingOf, written, bufferAfter}
+use Rattle.numbering.specs.Building.{sheetOf, seedTaken, choicesTaken, imageOf, tooLarge, seedless, earlierChecks, buildingChecks}
+use Rattle.numbering.specs.Building.{buildingOf, written, bufferAfter}
 use Rattle.numbering.specs.BuildingLaws.{image-length, building-seedless, building-answered, seed-least, taken-fill}
 use Rattle.condition3_theorem.specs.BuiltLaws.{Reads, InRange, reads-back, built-sound, built-listed, built-unlisted}
 use Rattle.condition3.specs.Condition3.{NothingFills, HasSeed, LowestWithout, EarlierChecks, Accepted, Condition3}

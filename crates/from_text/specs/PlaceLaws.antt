@@ -62,6 +62,7 @@ pub from-text-place : (text : List ℕ) (room : ℕ) → PlaceBelow textLines (b
 unfolding buildingFromText listFromText
 from-text-place text room =
     below-followed textLines (listFromText text) _
-    (below-checks textLines ((5, met (ltb textMax (length text))) ∷ []) (readingOf text tagsMax) ((λ _. met-below textLines _ (omega arith)) then tt)
+    (below-checks textLines ((5, met (ltb textMax (length text))) ∷ []) (readingOf text tagsMax)
+    ((λ _. met-below textLines _ (omega arith)) then tt)
     (λ short. reading-place text (ltb-false textMax (length text) (false-of-met _ (short .0)))))
     (λ listed. building-place (listed .tags) (listed .groups) (listed .limit) room)

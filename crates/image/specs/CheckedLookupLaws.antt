@@ -15,13 +15,15 @@ use Rattle.refusal.specs.Outcome.{Outcome, answered}
 use Rattle.lists.specs.First.{first, metAt, isSome}
 use Rattle.lists.specs.FirstLaws.{first-none, first-out, some-of-isSome, none-of-isSome}
 use Rattle.refusal.specs.Checks.{inOrder, Pass}
-use Rattle.refusal.specs.ChecksLaws.{_then_, metAt-false, false-of-met, passed, pass-append, pass-split, inOrder-pass, inOrder-answered, inOrder-append}
+use Rattle.refusal.specs.ChecksLaws.{_then_, metAt-false, false-of-met, passed, pass-append, pass-split, inOrder-pass, inOrder-answered}
+use Rattle.refusal.specs.ChecksLaws.{inOrder-append}
 use Rattle.hash.specs.FormulaLaws.{group-below, place-below}
 use Rattle.text.specs.Line.{lineAt, imageHeader}
 use Rattle.text.specs.LineLaws.{image-header-only}
 use Rattle.image.specs.View.{View, viewOf, countIn, groupsIn, startIn, seedIn, endIn, slotLineIn, slotIn, faulty, candidateIn}
 use Rattle.image.specs.Holds.{HoldsTag, SlotHolds}
-use Rattle.image.specs.Checking.{openingChecks, malformedIn, groupOfSlot, misplaced, repeated, numberChecks, checkingChecks, checkingOf}
+use Rattle.image.specs.Checking.{openingChecks, malformedIn, groupOfSlot, misplaced, repeated, numberChecks, checkingChecks}
+use Rattle.image.specs.Checking.{checkingOf}
 use Rattle.image.specs.Lookup.{Found, number, unknown, groupChecks, lookupChecks, atSlot, lookupInGroup, lookupOf}
 use Rattle.image.specs.LinesRead.{ownGroup, ownSlot}
 use Rattle.image.specs.Fair.{LiesIn, AllFair}

@@ -12,7 +12,8 @@ use Rattle.text.specs.Field.{valueFrom, same, field}
 use Rattle.text.specs.Line.{lineAt, pairLine, tagLine, ended, bothFields, pairOf, tagOf, within, imageHeader, groupLine, slotLine}
 use Rattle.image.specs.Sheet.{imageLength}
 use Rattle.image.specs.View.{viewOf, countIn, groupsIn, startIn, seedIn, slotLineIn, slotIn, endIn, faulty, candidateIn}
-use Rattle.image.specs.Checking.{openingChecks, malformedIn, groupOfSlot, misplaced, repeated, numberChecks, checkingChecks, checkingOf}
+use Rattle.image.specs.Checking.{openingChecks, malformedIn, groupOfSlot, misplaced, repeated, numberChecks, checkingChecks}
+use Rattle.image.specs.Checking.{checkingOf}
 
 -- `unfolding computed` opens every definition that these compute through.
 computed : ℕ

@@ -9,7 +9,8 @@ use lib.Seq.{getD-append-add}
 use Rattle.refusal.specs.Limits.{tagEnd, tagsMax, groupsMax, seedMax}
 use Rattle.text.specs.Line.{lineLength, lineAt, imageHeader, groupLine, slotLine}
 use Rattle.lists.specs.UpToLaws.{upTo-length, upTo-at}
-use Rattle.text.specs.LineLaws.{pairLine-length, tagLine-length, Lines, upTo-lines, lines-append, flatten-length, line-flatten, image-header-line, group-line, slot-line}
+use Rattle.text.specs.LineLaws.{pairLine-length, tagLine-length, Lines, upTo-lines, lines-append, flatten-length, line-flatten}
+use Rattle.text.specs.LineLaws.{image-header-line, group-line, slot-line}
 use Rattle.lists.specs.UpTo.{upTo}
 use Rattle.image.specs.Sheet.{Sheet, headerLineOf, groupLineOf, slotLineOf, linesOf, bytesOf, imageLength, longestImage}
 

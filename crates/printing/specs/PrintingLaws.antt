@@ -30,7 +30,8 @@ module _ (before : List ℕ) (enough : longestImage ≤ length before) where
       let groups = listed .groups in
       let limit = listed .limit in
       let same = sym (building-roomy tags groups limit (length before) enough) ∙ e in
-      rw same (image-length groups tags limit ∙ sym (answered-size tags groups limit (length before) e), buffer-written tags groups limit before e)
+      let size = image-length groups tags limit ∙ sym (answered-size tags groups limit (length before) e) in
+      rw same (size, buffer-written tags groups limit before e)
   list-built (refused number place) e = absurd (let z : _≡_ {A = ℕ} 0 1 = cc in omega arith)
 
   -- or refuses.

@@ -174,7 +174,8 @@ module _ {A : Type 0} where
       go false other h e later = rw (h .0) (later (h .1) e)
 
   -- Lists that differ in one check come to the same if it is met alike where those before it pass.
-  pub inOrder-but : (front : List Check) (number : ℕ) {spot spot′ : Option ℕ} (back : List Check) (o : Outcome A) → (Pass front → spot ≡ spot′)
+  pub inOrder-but : (front : List Check) (number : ℕ) {spot spot′ : Option ℕ} (back : List Check) (o : Outcome A)
+      → (Pass front → spot ≡ spot′)
       → inOrder (front ++ (number, spot) ∷ back) o ≡ inOrder (front ++ (number, spot′) ∷ back) o
   unfolding inOrder
   inOrder-but [] number back o same = rw (same tt)

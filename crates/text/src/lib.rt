@@ -15,7 +15,8 @@ ghost use Rattle.refusal.specs.Answer.{firstMeaning};
 ghost use Rattle.columns.specs.Columns.{columnOf, leadingFrom};
 ghost use Rattle.text.specs.Figure.{figure};
 ghost use Rattle.text.specs.Field.{field};
-ghost use Rattle.text.specs.Line.{lineLength, pairLine, tagLine, pairOf, tagOf, within, imageHeader, groupLine, slotLine, listHeader, listLine};
+ghost use Rattle.text.specs.Line.{lineLength, pairLine, tagLine, pairOf, tagOf, within, imageHeader, groupLine, slotLine};
+ghost use Rattle.text.specs.Line.{listHeader, listLine};
 ghost use Rattle.text.specs.TagLines.{noTagFrom, passed, tagsStored};
 ghost use Rattle.text.specs.Answer.{fieldMeaning, pairMeaning, tagMeaning};
 

@@ -12,7 +12,8 @@ use Rattle.refusal.specs.Checks.{met, inOrder}
 use Rattle.hash.specs.Formula.{product, highPart, hashed, groupOf, multiplier, placeOf}
 use Rattle.text.specs.Figure.{leading, figure}
 use Rattle.text.specs.Field.{valueFrom, same, field}
-use Rattle.text.specs.Line.{lineAt, pairLine, tagLine, ended, bothFields, pairOf, tagOf, within, imageHeader, groupLine, slotLine, listHeader, listLine}
+use Rattle.text.specs.Line.{lineAt, pairLine, tagLine, ended, bothFields, pairOf, tagOf, within, imageHeader, groupLine, slotLine}
+use Rattle.text.specs.Line.{listHeader, listLine}
 use Rattle.lists.specs.Occurs.{occurs, distinct}
 use Rattle.filling.specs.Filling.{placeBy}
 use Rattle.filling.specs.Least.{beginning, leastFrom, least, feasible}

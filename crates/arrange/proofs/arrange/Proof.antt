@@ -28,12 +28,6 @@ within c = part-within (entry (c .before) .pre) (c .before .loop .inv) (c .loop-
 loop-holds : tie.Need-loop-holds Inv-loop μ-loop
 loop-holds c = filled-start (c .before .before .before .before .before .pre)
 
-mul-end : tie.Need-mul-end Inv-loop μ-loop
-mul-end c = search needs
-
-shared-slice-read-end : tie.Need-shared-slice-read-end Inv-loop μ-loop
-shared-slice-read-end c = search needs
-
 mul-arrange-group : tie.Need-mul-arrange-group Inv-loop μ-loop
 mul-arrange-group c = omega (arith, within (c .before))
 
@@ -45,18 +39,6 @@ part-arrange-group-start c = within (c .before) .0
 
 part-arrange-group-end : tie.Need-part-arrange-group-end Inv-loop μ-loop
 part-arrange-group-end c = within (c .before) .1
-
-mul-arrange-group-2 : tie.Need-mul-arrange-group-2 Inv-loop μ-loop
-mul-arrange-group-2 c = search needs
-
-shared-slice-read-arrange-group : tie.Need-shared-slice-read-arrange-group Inv-loop μ-loop
-shared-slice-read-arrange-group c = search needs
-
-mul-arrange-group-3 : tie.Need-mul-arrange-group-3 Inv-loop μ-loop
-mul-arrange-group-3 c = search needs
-
-shared-slice-read-arrange-group-2 : tie.Need-shared-slice-read-arrange-group-2 Inv-loop μ-loop
-shared-slice-read-arrange-group-2 c = search needs
 
 mul-arrange-group-4 : tie.Need-mul-arrange-group-4 Inv-loop μ-loop
 mul-arrange-group-4 c = omega (arith, within (c .before .before .before .before))
@@ -74,12 +56,6 @@ arrange-group-requires : tie.Need-arrange-group-requires Inv-loop μ-loop
 arrange-group-requires c κs =
     let turn = c .before .before .before .before .before in
     part-arrangeable (entry (turn .before) .pre) (turn .before .loop .inv) (turn .loop-test .taken)
-
-add-g : tie.Need-add-g Inv-loop μ-loop
-add-g c = search needs
-
-loop-less : tie.Need-loop-less Inv-loop μ-loop
-loop-less c = search needs
 
 loop-again : tie.Need-loop-again Inv-loop μ-loop
 loop-again c =
@@ -100,23 +76,23 @@ arrange-spec =
     Inv-loop
     μ-loop
     loop-holds
-    mul-end
-    shared-slice-read-end
+    (λ c. search needs)  -- mul-end
+    (λ c. search needs)  -- shared-slice-read-end
     mul-arrange-group
     sub-arrange-group
     part-arrange-group-start
     part-arrange-group-end
-    mul-arrange-group-2
-    shared-slice-read-arrange-group
-    mul-arrange-group-3
-    shared-slice-read-arrange-group-2
+    (λ c. search needs)  -- mul-arrange-group-2
+    (λ c. search needs)  -- shared-slice-read-arrange-group
+    (λ c. search needs)  -- mul-arrange-group-3
+    (λ c. search needs)  -- shared-slice-read-arrange-group-2
     mul-arrange-group-4
     sub-arrange-group-2
     part-arrange-group-start-2
     part-arrange-group-end-2
     arrange-group-requires
-    add-g
-    loop-less
+    (λ c. search needs)  -- add-g
+    (λ c. search needs)  -- loop-less
     loop-again
     same-length
     returns)

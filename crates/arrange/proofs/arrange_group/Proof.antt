@@ -24,49 +24,13 @@ computed : (c : tie.After-hashed Inv-loop μ-loop)
     Computed (args .part .now) (args .seed) (args .word) (loop .loop .i) (c .before .multiplier-at .result) (c .hashed .result))
 computed c = record { by-is = cc (c .before .multiplier-at .ensures); place-is = c .hashed .ensures }
 
-cast-n : tie.Need-cast-n Inv-loop μ-loop
-cast-n c = search needs
-
-multiplier-requires : tie.Need-multiplier-requires Inv-loop μ-loop
-multiplier-requires c κs = search needs
-
-multiplier-requires-2 : tie.Need-multiplier-requires-2 Inv-loop μ-loop
-multiplier-requires-2 c κs = search needs
-
 loop-holds : tie.Need-loop-holds Inv-loop μ-loop
 loop-holds c = arranged-start (c .before .before .before .before .pre) _ refl
-
-cast-tag : tie.Need-cast-tag Inv-loop μ-loop
-cast-tag c = search needs
-
-mul-tag : tie.Need-mul-tag Inv-loop μ-loop
-mul-tag c = search needs
-
-shared-slice-read-tag : tie.Need-shared-slice-read-tag Inv-loop μ-loop
-shared-slice-read-tag c = search needs
-
-multiplier-at-requires : tie.Need-multiplier-at-requires Inv-loop μ-loop
-multiplier-at-requires c κs = search needs
-
-hashed-requires : tie.Need-hashed-requires Inv-loop μ-loop
-hashed-requires c κs = search needs
-
-cast-cells : tie.Need-cast-cells Inv-loop μ-loop
-cast-cells c = search needs
-
-mul-cells : tie.Need-mul-cells Inv-loop μ-loop
-mul-cells c = search needs
 
 slice-write-cells : tie.Need-slice-write-cells Inv-loop μ-loop
 slice-write-cells c =
     let turn = c .before .before .before in
     turn-inside (entry (turn .before) .pre) (turn .before .loop .inv) (turn .loop-test .taken) (computed c)
-
-add-i : tie.Need-add-i Inv-loop μ-loop
-add-i c = search needs
-
-loop-less : tie.Need-loop-less Inv-loop μ-loop
-loop-less c = search needs
 
 loop-again : tie.Need-loop-again Inv-loop μ-loop
 loop-again c =
@@ -85,20 +49,20 @@ arrange-group-spec =
     (tie.spec
     Inv-loop
     μ-loop
-    cast-n
-    multiplier-requires
-    multiplier-requires-2
+    (λ c. search needs)  -- cast-n
+    (λ c κs. search needs)  -- multiplier-requires
+    (λ c κs. search needs)  -- multiplier-requires-2
     loop-holds
-    cast-tag
-    mul-tag
-    shared-slice-read-tag
-    multiplier-at-requires
-    hashed-requires
-    cast-cells
-    mul-cells
+    (λ c. search needs)  -- cast-tag
+    (λ c. search needs)  -- mul-tag
+    (λ c. search needs)  -- shared-slice-read-tag
+    (λ c κs. search needs)  -- multiplier-at-requires
+    (λ c κs. search needs)  -- hashed-requires
+    (λ c. search needs)  -- cast-cells
+    (λ c. search needs)  -- mul-cells
     slice-write-cells
-    add-i
-    loop-less
+    (λ c. search needs)  -- add-i
+    (λ c. search needs)  -- loop-less
     loop-again
     same-length
     returns)

@@ -4,11 +4,12 @@ use Rattle.bits.specs.WordBitsLaws.{choice-shifted}
 use Rattle.bits.proofs.choice_at.Statement.{statement}
 use Rattle.bits.proofs.choice_at.Tie as tie
 
-shr-result : tie.Need-shr-result
-shr-result c = search needs
-
 returns : tie.Need-returns
 returns c = choice-shifted (c .args .word) (c .args .i)
 
 pub choice-at-spec : {M : Type 1} → statement M
-choice-at-spec = tie.close (tie.spec shr-result returns)
+choice-at-spec =
+    tie.close
+    (tie.spec
+    (λ c. search needs)  -- shr-result
+    returns)

@@ -5,11 +5,12 @@ use Rattle.bits.specs.WordBitsLaws.{toggle-xor}
 use Rattle.bits.proofs.toggled.Statement.{statement}
 use Rattle.bits.proofs.toggled.Tie as tie
 
-shl-result : tie.Need-shl-result
-shl-result c = search needs
-
 returns : tie.Need-returns
 returns c = cc (one-shifted (c .args .i) (c .pre), toggle-xor (c .args .word) (c .args .i))
 
 pub toggled-spec : {M : Type 1} → statement M
-toggled-spec = tie.close (tie.spec shl-result returns)
+toggled-spec =
+    tie.close
+    (tie.spec
+    (λ c. search needs)  -- shl-result
+    returns)

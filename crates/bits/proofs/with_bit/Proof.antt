@@ -4,11 +4,12 @@ use Rattle.bits.specs.BitLaws.{setBit-or, one-shifted}
 use Rattle.bits.proofs.with_bit.Statement.{statement}
 use Rattle.bits.proofs.with_bit.Tie as tie
 
-shl-result : tie.Need-shl-result
-shl-result c = search needs
-
 returns : tie.Need-returns
 returns c = rw (one-shifted (c .args .p) (c .pre)) (setBit-or (c .args .word) (c .args .p))
 
 pub with-bit-spec : {M : Type 1} → statement M
-with-bit-spec = tie.close (tie.spec shl-result returns)
+with-bit-spec =
+    tie.close
+    (tie.spec
+    (λ c. search needs)  -- shl-result
+    returns)

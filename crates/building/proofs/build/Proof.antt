@@ -74,23 +74,11 @@ passed-9 c =
     passed-on (checks (entry9 (c .before))) 9 10 refl (passed-6 (c .before .before))
     (met-false (le-ltb _ _ (rw (c .before .image-length .ensures) at (c .if4 .left))))
 
-outside-requires : tie.Need-outside-requires
-outside-requires c κs = search needs
-
-refuse-requires : tie.Need-refuse-requires
-refuse-requires c κs = search needs
-
 returns : tie.Need-returns
 unfolding earlierChecks limitCheck ascendingCheck
 returns c =
     let tested = c .before .before in
     due (entry tested) 8 (c .refuse .ensures) tt (met-true (sym (tested .outside .ensures) ∙ c .before .if1 .taken))
-
-outside-requires-2 : tie.Need-outside-requires-2
-outside-requires-2 c κs = search needs
-
-refuse-requires-2 : tie.Need-refuse-requires-2
-refuse-requires-2 c κs = search needs
 
 returns-2 : tie.Need-returns-2
 unfolding earlierChecks limitCheck ascendingCheck
@@ -99,23 +87,11 @@ returns-2 c =
     due (entry4 tested) 4 (c .refuse2 .ensures) (passed-8 (tested .before))
     (met-true (sym (tested .outside2 .ensures) ∙ c .before .if2 .taken))
 
-refuse-requires-3 : tie.Need-refuse-requires-3
-refuse-requires-3 c κs = search needs
-
 returns-3 : tie.Need-returns-3
 unfolding earlierChecks limitCheck ascendingCheck
 returns-3 c =
     let legal = c .before .before in
     due (entry4 (legal .before)) 5 (c .refuse3 .ensures) (passed-4 legal) (met-true (lt-ltb _ _ (c .before .if3 .taken)))
-
-first-not-above-requires : tie.Need-first-not-above-requires
-first-not-above-requires c κs = search needs
-
-enum-known-i : tie.Need-enum-known-i
-enum-known-i c = search needs
-
-refuse-requires-4 : tie.Need-refuse-requires-4
-refuse-requires-4 c κs = search needs
 
 returns-4 : tie.Need-returns-4
 unfolding earlierChecks limitCheck ascendingCheck
@@ -125,18 +101,12 @@ returns-4 c =
     due (entry6 tested) 6 (c .refuse4 .ensures) (passed-5 (tested .before))
     (sym (tested .first-not-above .ensures) ∙ ap firstMeaning (told .i .given .1))
 
-enum-told : tie.Need-enum-told
-enum-told c = search needs
-
 image-length-requires : tie.Need-image-length-requires
 image-length-requires c κs =
     let counted = c .before .before .before in
     let legal = counted .before .before .before in
     let groups = entry (legal .before) .before .args .groups in
     ((inside 1 groupsMax groups (sym (legal .before .outside .ensures) ∙ legal .if1 .left)) .1, counted .if3 .left)
-
-refuse-requires-5 : tie.Need-refuse-requires-5
-refuse-requires-5 c κs = search needs
 
 returns-5 : tie.Need-returns-5
 unfolding earlierChecks limitCheck ascendingCheck
@@ -147,9 +117,6 @@ returns-5 c =
 
 build-admitted-requires : tie.Need-build-admitted-requires
 build-admitted-requires c κs = record { passes = passed-9 (c .before) }
-
-same-length : tie.Need-same-length
-same-length c = search needs
 
 returns-6 : tie.Need-returns-6
 returns-6 c =
@@ -163,22 +130,22 @@ pub build-spec : {M : Type 1} → statement M
 build-spec =
     tie.close
     (tie.spec
-    outside-requires
-    refuse-requires
+    (λ c κs. search needs)  -- outside-requires
+    (λ c κs. search needs)  -- refuse-requires
     returns
-    outside-requires-2
-    refuse-requires-2
+    (λ c κs. search needs)  -- outside-requires-2
+    (λ c κs. search needs)  -- refuse-requires-2
     returns-2
-    refuse-requires-3
+    (λ c κs. search needs)  -- refuse-requires-3
     returns-3
-    first-not-above-requires
-    enum-known-i
-    refuse-requires-4
+    (λ c κs. search needs)  -- first-not-above-requires
+    (λ c. search needs)  -- enum-known-i
+    (λ c κs. search needs)  -- refuse-requires-4
     returns-4
-    enum-told
+    (λ c. search needs)  -- enum-told
     image-length-requires
-    refuse-requires-5
+    (λ c κs. search needs)  -- refuse-requires-5
     returns-5
     build-admitted-requires
-    same-length
+    (λ c. search needs)  -- same-length
     returns-6)

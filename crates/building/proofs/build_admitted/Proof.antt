@@ -53,12 +53,6 @@ order-by-group-requires c κs =
     let start = c .before .before .before .before in
     ((legal start .0, legal start .1, admitted-count (start .pre)), (refl, refl))
 
-enum-known-g : tie.Need-enum-known-g
-enum-known-g c = search needs
-
-refuse-requires : tie.Need-refuse-requires
-refuse-requires c κs = search needs
-
 returns : tie.Need-returns
 unfolding earlierChecks limitCheck ascendingCheck
 returns c =
@@ -69,9 +63,6 @@ returns c =
     let lowest = sym (ordered .order-by-group .ensures .0) ∙ ap firstMeaning (told .g .given .1) in
     let outcome = building-refused (a .tags .now) (a .groups) (a .limit) _ 10 (start .pre .passes) lowest in
     (c .refuse .ensures ∙ sym outcome, sym (buffer-kept (a .tags .now) (a .groups) (a .limit) (a .buffer .now) outcome))
-
-enum-told : tie.Need-enum-told
-enum-told c = search needs
 
 slice-aggregate-build-ordered : tie.Need-slice-aggregate-build-ordered
 slice-aggregate-build-ordered c = sym (ordered-long (c .before))
@@ -96,23 +87,17 @@ build-ordered-requires c κs =
       cells = omega (arith, ordered-long told);
     }
 
-same-length : tie.Need-same-length
-same-length c = search needs
-
-returns-2 : tie.Need-returns-2
-returns-2 c = search needs
-
 pub build-admitted-spec : {M : Type 1} → statement M
 build-admitted-spec =
     tie.close
     (tie.spec
     order-by-group-requires
-    enum-known-g
-    refuse-requires
+    (λ c. search needs)  -- enum-known-g
+    (λ c κs. search needs)  -- refuse-requires
     returns
-    enum-told
+    (λ c. search needs)  -- enum-told
     slice-aggregate-build-ordered
     slice-aggregate-build-ordered-2
     build-ordered-requires
-    same-length
-    returns-2)
+    (λ c. search needs)  -- same-length
+    (λ c. search needs))  -- returns-2

@@ -20,12 +20,6 @@ plan-groups-requires c κs =
     let start = c .before .before .before .before .before .before in
     (plannable (start .pre), inputs (start .pre) .groups-legal .1, refl, refl)
 
-enum-known-g : tie.Need-enum-known-g
-enum-known-g c = search needs
-
-refuse-requires : tie.Need-refuse-requires
-refuse-requires c κs = search needs
-
 returns : tie.Need-returns
 returns c =
     let planned = c .before .before .before .before in
@@ -35,9 +29,6 @@ returns c =
     ∙ ap firstMeaning (c .before .before .g .given .1) in
     let outcome = building-seedless (a .tags .now) (a .groups) (a .limit) _ (start .pre .passes) lowest in
     (c .refuse .ensures ∙ sym outcome, sym (buffer-kept (a .tags .now) (a .groups) (a .limit) (a .buffer .now) outcome))
-
-enum-told : tie.Need-enum-told
-enum-told c = search needs
 
 slice-aggregate-write-image : tie.Need-slice-aggregate-write-image
 slice-aggregate-write-image c =
@@ -76,9 +67,6 @@ image-length-requires c κs =
     let start = planned .before .before .before .before .before .before .before in
     (inputs (start .pre) .groups-legal .1, inputs (start .pre) .count-legal)
 
-same-length : tie.Need-same-length
-same-length c = search needs
-
 returns-2 : tie.Need-returns-2
 returns-2 c =
     let written = c .before .before .before in
@@ -102,13 +90,13 @@ build-ordered-spec =
     tie.close
     (tie.spec
     plan-groups-requires
-    enum-known-g
-    refuse-requires
+    (λ c. search needs)  -- enum-known-g
+    (λ c κs. search needs)  -- refuse-requires
     returns
-    enum-told
+    (λ c. search needs)  -- enum-told
     slice-aggregate-write-image
     slice-aggregate-write-image-2
     write-image-requires
     image-length-requires
-    same-length
+    (λ c. search needs)  -- same-length
     returns-2)

@@ -24,15 +24,6 @@ placesBy-hashed choice n s [] = refl
 placesBy-hashed false n s (t ∷ tags) = rw (placesBy-hashed false n s tags)
 placesBy-hashed true n s (t ∷ tags) = rw (placesBy-hashed true n s tags)
 
-multiplier-requires : tie.Need-multiplier-requires
-multiplier-requires c κs = search needs
-
-lay-requires : tie.Need-lay-requires
-lay-requires c κs = search needs
-
-multiplier-requires-2 : tie.Need-multiplier-requires-2
-multiplier-requires-2 c κs = search needs
-
 lay-requires-2 : tie.Need-lay-requires-2
 lay-requires-2 c κs =
     let laid = c .before .before in
@@ -64,4 +55,9 @@ returns c =
 pub candidate-places-spec : {M : Type 1} → statement M
 candidate-places-spec =
     tie.close
-    (tie.spec multiplier-requires lay-requires multiplier-requires-2 lay-requires-2 returns)
+    (tie.spec
+    (λ c κs. search needs)  -- multiplier-requires
+    (λ c κs. search needs)  -- lay-requires
+    (λ c κs. search needs)  -- multiplier-requires-2
+    lay-requires-2
+    returns)

@@ -23,30 +23,6 @@ loop-holds c =
     let a = c .before .args in
     (omega arith, paste-zero (a .places .now) (a .from) (map (hashed (a .multiplier) (a .n)) (a .tags .now)))
 
-mul-hashed : tie.Need-mul-hashed Inv-loop μ-loop
-mul-hashed c = search needs
-
-shared-slice-read-hashed : tie.Need-shared-slice-read-hashed Inv-loop μ-loop
-shared-slice-read-hashed c = search needs
-
-hashed-requires : tie.Need-hashed-requires Inv-loop μ-loop
-hashed-requires c κs = search needs
-
-add-places : tie.Need-add-places Inv-loop μ-loop
-add-places c = search needs
-
-mul-places : tie.Need-mul-places Inv-loop μ-loop
-mul-places c = search needs
-
-element-write-places : tie.Need-element-write-places Inv-loop μ-loop
-element-write-places c = search needs
-
-add-i : tie.Need-add-i Inv-loop μ-loop
-add-i c = search needs
-
-loop-less : tie.Need-loop-less Inv-loop μ-loop
-loop-less c = search needs
-
 loop-again : tie.Need-loop-again Inv-loop μ-loop
 loop-again c =
     let at = c .before .before .before in
@@ -74,13 +50,13 @@ lay-spec =
     Inv-loop
     μ-loop
     loop-holds
-    mul-hashed
-    shared-slice-read-hashed
-    hashed-requires
-    add-places
-    mul-places
-    element-write-places
-    add-i
-    loop-less
+    (λ c. search needs)  -- mul-hashed
+    (λ c. search needs)  -- shared-slice-read-hashed
+    (λ c κs. search needs)  -- hashed-requires
+    (λ c. search needs)  -- add-places
+    (λ c. search needs)  -- mul-places
+    (λ c. search needs)  -- element-write-places
+    (λ c. search needs)  -- add-i
+    (λ c. search needs)  -- loop-less
     loop-again
     returns)

@@ -30,15 +30,6 @@ outcome c =
     let fair = sym (passed .before .before .faulty-group .ensures) ∙ ap firstMeaning (passed .enum-told .given .1) in
     numbers-slots (a .starts .now) (a .seeds .now) (a .tags .now) (a .groups) fair ∙ ap faultOutcome (sym (c .slot-fault .ensures))
 
-faulty-group-requires : tie.Need-faulty-group-requires
-faulty-group-requires c κs = search needs
-
-enum-known-g : tie.Need-enum-known-g
-enum-known-g c = search needs
-
-refused-requires : tie.Need-refused-requires
-refused-requires c κs = search needs
-
 returns : tie.Need-returns
 returns c =
     let told = c .before .before in
@@ -48,9 +39,6 @@ returns c =
     ∙ sym (numbers-faulty (a .starts .now) (a .seeds .now) (a .tags .now) (a .groups)
     (sym (searched .faulty-group .ensures) ∙ ap firstMeaning (told .g .given .1)))
 
-enum-told : tie.Need-enum-told
-enum-told c = search needs
-
 slot-fault-requires : tie.Need-slot-fault-requires
 slot-fault-requires c κs =
     let searched = c .before .before in
@@ -58,21 +46,6 @@ slot-fault-requires c κs =
     let a = start .args in
     regular-of (a .starts .now) (a .seeds .now) (a .groups) (start .pre)
     (sym (searched .faulty-group .ensures) ∙ ap firstMeaning (c .enum-told .given .1))
-
-enum-known-j : tie.Need-enum-known-j
-enum-known-j c = search needs
-
-refused-requires-2 : tie.Need-refused-requires-2
-refused-requires-2 c κs = search needs
-
-enum-known-j-2 : tie.Need-enum-known-j-2
-enum-known-j-2 c = search needs
-
-refused-requires-3 : tie.Need-refused-requires-3
-refused-requires-3 c κs = search needs
-
-enum-told-2 : tie.Need-enum-told-2
-enum-told-2 c = search needs
 
 returns-2 : tie.Need-returns-2
 returns-2 c =
@@ -91,17 +64,17 @@ pub check-cells-spec : {M : Type 1} → statement M
 check-cells-spec =
     tie.close
     (tie.spec
-    faulty-group-requires
-    enum-known-g
-    refused-requires
+    (λ c κs. search needs)  -- faulty-group-requires
+    (λ c. search needs)  -- enum-known-g
+    (λ c κs. search needs)  -- refused-requires
     returns
-    enum-told
+    (λ c. search needs)  -- enum-told
     slot-fault-requires
-    enum-known-j
-    refused-requires-2
-    enum-known-j-2
-    refused-requires-3
-    enum-told-2
+    (λ c. search needs)  -- enum-known-j
+    (λ c κs. search needs)  -- refused-requires-2
+    (λ c. search needs)  -- enum-known-j-2
+    (λ c κs. search needs)  -- refused-requires-3
+    (λ c. search needs)  -- enum-told-2
     returns-2
     returns-3
     returns-4)

@@ -13,12 +13,6 @@ read-group-lines-requires c κs =
     let start = c .before .before .before in
     (opening-answered (start .args .image .now) (start .pre), (refl, refl))
 
-enum-known-k : tie.Need-enum-known-k
-enum-known-k c = search needs
-
-refused-requires : tie.Need-refused-requires
-refused-requires c κs = search needs
-
 returns : tie.Need-returns
 returns c =
     let told = c .before .before in
@@ -26,9 +20,6 @@ returns c =
     let start = read .before .before .before .before in
     let found = sym (read .read-group-lines .ensures .0) ∙ ap firstMeaning (told .k .given .1) in
     c .refused .ensures ∙ sym (check-group-line (start .args .image .now) (start .pre) found)
-
-enum-told : tie.Need-enum-told
-enum-told c = search needs
 
 read-slot-lines-requires : tie.Need-read-slot-lines-requires
 read-slot-lines-requires c κs =
@@ -38,12 +29,6 @@ read-slot-lines-requires c κs =
     let passed = sym (read .read-group-lines .ensures .0) ∙ ap firstMeaning (told .enum-told .given .1) in
     (opening-answered (start .args .image .now) (start .pre), (passed, refl))
 
-enum-known-k-2 : tie.Need-enum-known-k-2
-enum-known-k-2 c = search needs
-
-refused-requires-2 : tie.Need-refused-requires-2
-refused-requires-2 c κs = search needs
-
 returns-2 : tie.Need-returns-2
 returns-2 c =
     let told = c .before .before in
@@ -51,9 +36,6 @@ returns-2 c =
     let start = read .before .before .before .before .before .before .before .before in
     let found = sym (read .read-slot-lines .ensures .0) ∙ ap firstMeaning (told .k2 .given .1) in
     c .refused2 .ensures ∙ sym (check-line (start .args .image .now) (start .pre) found)
-
-enum-told-2 : tie.Need-enum-told-2
-enum-told-2 c = search needs
 
 check-cells-requires : tie.Need-check-cells-requires
 check-cells-requires c κs =
@@ -80,14 +62,14 @@ check-opened-spec =
     tie.close
     (tie.spec
     read-group-lines-requires
-    enum-known-k
-    refused-requires
+    (λ c. search needs)  -- enum-known-k
+    (λ c κs. search needs)  -- refused-requires
     returns
-    enum-told
+    (λ c. search needs)  -- enum-told
     read-slot-lines-requires
-    enum-known-k-2
-    refused-requires-2
+    (λ c. search needs)  -- enum-known-k-2
+    (λ c κs. search needs)  -- refused-requires-2
     returns-2
-    enum-told-2
+    (λ c. search needs)  -- enum-told-2
     check-cells-requires
     returns-3)

@@ -20,27 +20,6 @@ unfolding first
 loop-holds c =
     let a = c .args in searched-start (faultyAt (a .starts .now)) 0 (a .groups) (omega arith) refl
 
-cast-at : tie.Need-cast-at Inv-loop μ-loop
-cast-at c = search needs
-
-mul-faulty : tie.Need-mul-faulty Inv-loop μ-loop
-mul-faulty c = search needs
-
-element-copy-out-faulty : tie.Need-element-copy-out-faulty Inv-loop μ-loop
-element-copy-out-faulty c = search needs
-
-add-faulty : tie.Need-add-faulty Inv-loop μ-loop
-add-faulty c = search needs
-
-mul-faulty-2 : tie.Need-mul-faulty-2 Inv-loop μ-loop
-mul-faulty-2 c = search needs
-
-element-copy-out-faulty-2 : tie.Need-element-copy-out-faulty-2 Inv-loop μ-loop
-element-copy-out-faulty-2 c = search needs
-
-faulty-requires : tie.Need-faulty-requires Inv-loop μ-loop
-faulty-requires c κs = search needs
-
 returns : tie.Need-returns Inv-loop μ-loop
 returns c =
     let turn = c .before .before .before .before in
@@ -48,12 +27,6 @@ returns c =
     let a = loop .before .args in
     sym (searched-found (faultyAt (a .starts .now)) 0 (a .groups) (loop .loop .g) (loop .loop .inv) (turn .loop-test .taken)
     (sym (c .before .faulty .ensures) ∙ c .if1 .taken))
-
-add-g : tie.Need-add-g Inv-loop μ-loop
-add-g c = search needs
-
-loop-less : tie.Need-loop-less Inv-loop μ-loop
-loop-less c = search needs
 
 loop-again : tie.Need-loop-again Inv-loop μ-loop
 loop-again c =
@@ -76,15 +49,15 @@ faulty-group-spec =
     Inv-loop
     μ-loop
     loop-holds
-    cast-at
-    mul-faulty
-    element-copy-out-faulty
-    add-faulty
-    mul-faulty-2
-    element-copy-out-faulty-2
-    faulty-requires
+    (λ c. search needs)  -- cast-at
+    (λ c. search needs)  -- mul-faulty
+    (λ c. search needs)  -- element-copy-out-faulty
+    (λ c. search needs)  -- add-faulty
+    (λ c. search needs)  -- mul-faulty-2
+    (λ c. search needs)  -- element-copy-out-faulty-2
+    (λ c κs. search needs)  -- faulty-requires
     returns
-    add-g
-    loop-less
+    (λ c. search needs)  -- add-g
+    (λ c. search needs)  -- loop-less
     loop-again
     returns-2)

@@ -62,9 +62,6 @@ tested : (c : Line) (o : Option (ℕ × ℕ)) → groupLine (lineAt (1 + g c) (i
     → malformedIn (viewOf (image c)) (1 + g c) ≡ not (isSome o)
 tested c o e = group-line-tested (image c) (c .before .before .before .before .pre .0) (1 + g c) (omega arith) (below c) o e
 
-mul-starts : tie.Need-mul-starts Inv-loop μ-loop
-mul-starts c = search needs
-
 element-write-starts : tie.Need-element-write-starts Inv-loop μ-loop
 element-write-starts c = omega (arith, c .before .pre .0 .groups-legal)
 
@@ -78,24 +75,6 @@ loop-holds c =
       stored = groups-none (a .image .now) opens (a .starts .now) (a .seeds .now) (start .pre .1 .0) (start .pre .1 .1);
     }
 
-add-read-group-line : tie.Need-add-read-group-line Inv-loop μ-loop
-add-read-group-line c = search needs
-
-mul-read-group-line : tie.Need-mul-read-group-line Inv-loop μ-loop
-mul-read-group-line c = search needs
-
-read-group-line-requires : tie.Need-read-group-line-requires Inv-loop μ-loop
-read-group-line-requires c κs = search needs
-
-enum-known-start : tie.Need-enum-known-start Inv-loop μ-loop
-enum-known-start c = search needs
-
-enum-told : tie.Need-enum-told Inv-loop μ-loop
-enum-told c = search needs
-
-add-t17 : tie.Need-add-t17 Inv-loop μ-loop
-add-t17 c = search needs
-
 returns : tie.Need-returns Inv-loop μ-loop
 unfolding isSome
 returns c =
@@ -104,24 +83,6 @@ returns c =
     let test = malformedIn (viewOf (image line)) in
     let found = searched-found test 1 (1 + groups line) (1 + g line) (inv line .searched) (below line) malformed in
     (sym found, inv line .stored)
-
-mul-starts-2 : tie.Need-mul-starts-2 Inv-loop μ-loop
-mul-starts-2 c = search needs
-
-element-write-starts-2 : tie.Need-element-write-starts-2 Inv-loop μ-loop
-element-write-starts-2 c = search needs
-
-mul-seeds : tie.Need-mul-seeds Inv-loop μ-loop
-mul-seeds c = search needs
-
-element-write-seeds : tie.Need-element-write-seeds Inv-loop μ-loop
-element-write-seeds c = search needs
-
-add-g : tie.Need-add-g Inv-loop μ-loop
-add-g c = search needs
-
-loop-less : tie.Need-loop-less Inv-loop μ-loop
-loop-less c = search needs
 
 loop-again : tie.Need-loop-again Inv-loop μ-loop
 unfolding isSome
@@ -155,21 +116,21 @@ read-group-lines-spec =
     (tie.spec
     Inv-loop
     μ-loop
-    mul-starts
+    (λ c. search needs)  -- mul-starts
     element-write-starts
     loop-holds
-    add-read-group-line
-    mul-read-group-line
-    read-group-line-requires
-    enum-known-start
-    enum-told
-    add-t17
+    (λ c. search needs)  -- add-read-group-line
+    (λ c. search needs)  -- mul-read-group-line
+    (λ c κs. search needs)  -- read-group-line-requires
+    (λ c. search needs)  -- enum-known-start
+    (λ c. search needs)  -- enum-told
+    (λ c. search needs)  -- add-t17
     returns
-    mul-starts-2
-    element-write-starts-2
-    mul-seeds
-    element-write-seeds
-    add-g
-    loop-less
+    (λ c. search needs)  -- mul-starts-2
+    (λ c. search needs)  -- element-write-starts-2
+    (λ c. search needs)  -- mul-seeds
+    (λ c. search needs)  -- element-write-seeds
+    (λ c. search needs)  -- add-g
+    (λ c. search needs)  -- loop-less
     loop-again
     returns-2)

@@ -6,15 +6,6 @@ use Rattle.checking.specs.StepsLaws.{slot-lines, slots-stored}
 use Rattle.checking.proofs.read_slot_lines.Statement.{statement}
 use Rattle.checking.proofs.read_slot_lines.Tie as tie
 
-add-from : tie.Need-add-from
-add-from c = search needs
-
-add-read-tag-lines : tie.Need-add-read-tag-lines
-add-read-tag-lines c = search needs
-
-read-tag-lines-requires : tie.Need-read-tag-lines-requires
-read-tag-lines-requires c κs = search needs
-
 returns : tie.Need-returns
 returns c =
     let start = c .before .before .before in
@@ -24,4 +15,9 @@ returns c =
 
 pub read-slot-lines-spec : {M : Type 1} → statement M
 read-slot-lines-spec =
-    tie.close (tie.spec add-from add-read-tag-lines read-tag-lines-requires returns)
+    tie.close
+    (tie.spec
+    (λ c. search needs)  -- add-from
+    (λ c. search needs)  -- add-read-tag-lines
+    (λ c κs. search needs)  -- read-tag-lines-requires
+    returns)

@@ -10,12 +10,6 @@ use borrow.Author.Needs.{needs}
 use Rattle.claim.proofs.build_then_look_up.Statement.{statement}
 use Rattle.claim.proofs.build_then_look_up.Tie as tie
 
-build-requires : tie.Need-build-requires
-build-requires c κs = search needs
-
-enum-known-size : tie.Need-enum-known-size
-enum-known-size c = search needs
-
 slice-reshare-prefix-lookup : tie.Need-slice-reshare-prefix-lookup
 slice-reshare-prefix-lookup c =
     let told = c .before in
@@ -34,15 +28,6 @@ slice-aggregate-lookup c =
     sym (length-take-le _ _
     (written-within (a .tags .now) (a .groups) (a .limit) (a .buffer .now) (a .tag) (built .build .ensures .1 .0) outcome))
 
-lookup-requires : tie.Need-lookup-requires
-lookup-requires c κs = search needs
-
-enum-known-refusal : tie.Need-enum-known-refusal
-enum-known-refusal c = search needs
-
-same-length : tie.Need-same-length
-same-length c = search needs
-
 returns : tie.Need-returns
 returns c =
     let told = c .before .before .before in
@@ -55,9 +40,6 @@ returns c =
           ∙ claim-found (a .tags .now) (a .groups) (a .limit) (a .buffer .now) (a .tag) words (built .build .ensures .1 .0) outcome,
       (built .build .ensures .1 .0, rw (built .build .ensures .0) at (built .build .ensures .1 .1)),
     )
-
-same-length-2 : tie.Need-same-length-2
-same-length-2 c = search needs
 
 returns-2 : tie.Need-returns-2
 returns-2 c =
@@ -73,13 +55,13 @@ pub build-then-look-up-spec : {M : Type 1} → statement M
 build-then-look-up-spec =
     tie.close
     (tie.spec
-    build-requires
-    enum-known-size
+    (λ c κs. search needs)  -- build-requires
+    (λ c. search needs)  -- enum-known-size
     slice-reshare-prefix-lookup
     slice-aggregate-lookup
-    lookup-requires
-    enum-known-refusal
-    same-length
+    (λ c κs. search needs)  -- lookup-requires
+    (λ c. search needs)  -- enum-known-refusal
+    (λ c. search needs)  -- same-length
     returns
-    same-length-2
+    (λ c. search needs)  -- same-length-2
     returns-2)

@@ -28,18 +28,6 @@ eight c =
       packs = rw (c .before .four-bytes .ensures .0, c .four-bytes2 .ensures .0);
     }
 
-four-bytes-requires : tie.Need-four-bytes-requires
-four-bytes-requires c κs = search needs
-
-four-bytes-requires-2 : tie.Need-four-bytes-requires-2
-four-bytes-requires-2 c κs = search needs
-
-mul-word : tie.Need-mul-word
-mul-word c = search needs
-
-add-word : tie.Need-add-word
-add-word c = search needs
-
 add-if1 : tie.Need-add-if1
 add-if1 c = omega (arith, digits-below c)
 
@@ -76,9 +64,6 @@ mul-fours c = omega (arith, pairs-below (bitAnd (word (c .before .before)) 10851
 add-fours : tie.Need-add-fours
 add-fours c = omega (arith, pairs-below (bitAnd (word (c .before .before)) 1085102592571150095))
 
-cast-t13 : tie.Need-cast-t13
-cast-t13 c = search needs
-
 cast-t14 : tie.Need-cast-t14
 cast-t14 c = omega (arith, fours-below (pairsOf (bitAnd (word (c .before .before)) 1085102592571150095)))
 
@@ -91,10 +76,10 @@ pub read-columns-spec : {M : Type 1} → statement M
 read-columns-spec =
     tie.close
     (tie.spec
-    four-bytes-requires
-    four-bytes-requires-2
-    mul-word
-    add-word
+    (λ c κs. search needs)  -- four-bytes-requires
+    (λ c κs. search needs)  -- four-bytes-requires-2
+    (λ c. search needs)  -- mul-word
+    (λ c. search needs)  -- add-word
     add-if1
     returns
     add-spaces
@@ -105,6 +90,6 @@ read-columns-spec =
     add-pairs
     mul-fours
     add-fours
-    cast-t13
+    (λ c. search needs)  -- cast-t13
     cast-t14
     returns-3)

@@ -6,9 +6,6 @@ use Rattle.columns.proofs.Spaces.{line-fours}
 use Rattle.columns.proofs.two_fours.Statement.{statement}
 use Rattle.columns.proofs.two_fours.Tie as tie
 
-read-columns-requires : tie.Need-read-columns-requires
-read-columns-requires c κs = search needs
-
 returns : tie.Need-returns
 returns c =
     let known = c .before in
@@ -16,4 +13,8 @@ returns c =
     c .read-columns .ensures ∙ line-fours (start .args .line .now) (λ k. omega (arith, known .shared-slice-known .given k)) (start .pre)
 
 pub two-fours-spec : {M : Type 1} → statement M
-two-fours-spec = tie.close (tie.spec read-columns-requires returns)
+two-fours-spec =
+    tie.close
+    (tie.spec
+    (λ c κs. search needs)  -- read-columns-requires
+    returns)

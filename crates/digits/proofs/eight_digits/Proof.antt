@@ -5,39 +5,6 @@ use Rattle.digits.proofs.Tens.{computed}
 use Rattle.digits.proofs.eight_digits.Statement.{statement}
 use Rattle.digits.proofs.eight_digits.Tie as tie
 
-cast-pairs : tie.Need-cast-pairs
-cast-pairs c = search needs
-
-cast-pairs-2 : tie.Need-cast-pairs-2
-cast-pairs-2 c = search needs
-
-mul-pairs : tie.Need-mul-pairs
-mul-pairs c = search needs
-
-add-pairs : tie.Need-add-pairs
-add-pairs c = search needs
-
-cast-pairs-3 : tie.Need-cast-pairs-3
-cast-pairs-3 c = search needs
-
-mul-pairs-2 : tie.Need-mul-pairs-2
-mul-pairs-2 c = search needs
-
-add-pairs-2 : tie.Need-add-pairs-2
-add-pairs-2 c = search needs
-
-cast-pairs-4 : tie.Need-cast-pairs-4
-cast-pairs-4 c = search needs
-
-mul-pairs-3 : tie.Need-mul-pairs-3
-mul-pairs-3 c = search needs
-
-add-pairs-3 : tie.Need-add-pairs-3
-add-pairs-3 c = search needs
-
-mul-tens : tie.Need-mul-tens
-mul-tens c = search needs
-
 mul-result : tie.Need-mul-result
 mul-result c = let k = computed (c .args .n) (c .pre) in search (needs, k .below)
 
@@ -57,17 +24,17 @@ pub eight-digits-spec : {M : Type 1} → statement M
 eight-digits-spec =
     tie.close
     (tie.spec
-    cast-pairs
-    cast-pairs-2
-    mul-pairs
-    add-pairs
-    cast-pairs-3
-    mul-pairs-2
-    add-pairs-2
-    cast-pairs-4
-    mul-pairs-3
-    add-pairs-3
-    mul-tens
+    (λ c. search needs)  -- cast-pairs
+    (λ c. search needs)  -- cast-pairs-2
+    (λ c. search needs)  -- mul-pairs
+    (λ c. search needs)  -- add-pairs
+    (λ c. search needs)  -- cast-pairs-3
+    (λ c. search needs)  -- mul-pairs-2
+    (λ c. search needs)  -- add-pairs-2
+    (λ c. search needs)  -- cast-pairs-4
+    (λ c. search needs)  -- mul-pairs-3
+    (λ c. search needs)  -- add-pairs-3
+    (λ c. search needs)  -- mul-tens
     mul-result
     add-result
     mul-result-2

@@ -9,74 +9,23 @@ use Rattle.digits.proofs.Stores.{eight-written}
 use Rattle.digits.proofs.write_eight_digits.Statement.{statement}
 use Rattle.digits.proofs.write_eight_digits.Tie as tie
 
-eight-digits-requires : tie.Need-eight-digits-requires
-eight-digits-requires c κs = search needs
-
-cast-buffer : tie.Need-cast-buffer
-cast-buffer c = search needs
-
-slice-write-buffer : tie.Need-slice-write-buffer
-slice-write-buffer c = search needs
-
-cast-buffer-2 : tie.Need-cast-buffer-2
-cast-buffer-2 c = search needs
-
-add-buffer : tie.Need-add-buffer
-add-buffer c = search needs
-
 slice-write-buffer-2 : tie.Need-slice-write-buffer-2
 slice-write-buffer-2 c = simp length-set (omega arith)
-
-cast-buffer-3 : tie.Need-cast-buffer-3
-cast-buffer-3 c = search needs
-
-add-buffer-2 : tie.Need-add-buffer-2
-add-buffer-2 c = search needs
 
 slice-write-buffer-3 : tie.Need-slice-write-buffer-3
 slice-write-buffer-3 c = simp length-set (omega arith)
 
-cast-buffer-4 : tie.Need-cast-buffer-4
-cast-buffer-4 c = search needs
-
-add-buffer-3 : tie.Need-add-buffer-3
-add-buffer-3 c = search needs
-
 slice-write-buffer-4 : tie.Need-slice-write-buffer-4
 slice-write-buffer-4 c = simp length-set (omega arith)
-
-cast-buffer-5 : tie.Need-cast-buffer-5
-cast-buffer-5 c = search needs
-
-add-buffer-4 : tie.Need-add-buffer-4
-add-buffer-4 c = search needs
 
 slice-write-buffer-5 : tie.Need-slice-write-buffer-5
 slice-write-buffer-5 c = simp length-set (omega arith)
 
-cast-buffer-6 : tie.Need-cast-buffer-6
-cast-buffer-6 c = search needs
-
-add-buffer-5 : tie.Need-add-buffer-5
-add-buffer-5 c = search needs
-
 slice-write-buffer-6 : tie.Need-slice-write-buffer-6
 slice-write-buffer-6 c = simp length-set (omega arith)
 
-cast-buffer-7 : tie.Need-cast-buffer-7
-cast-buffer-7 c = search needs
-
-add-buffer-6 : tie.Need-add-buffer-6
-add-buffer-6 c = search needs
-
 slice-write-buffer-7 : tie.Need-slice-write-buffer-7
 slice-write-buffer-7 c = simp length-set (omega arith)
-
-cast-buffer-8 : tie.Need-cast-buffer-8
-cast-buffer-8 c = search needs
-
-add-buffer-7 : tie.Need-add-buffer-7
-add-buffer-7 c = search needs
 
 slice-write-buffer-8 : tie.Need-slice-write-buffer-8
 slice-write-buffer-8 c = simp length-set (omega arith)
@@ -94,29 +43,29 @@ pub write-eight-digits-spec : {M : Type 1} → statement M
 write-eight-digits-spec =
     tie.close
     (tie.spec
-    eight-digits-requires
-    cast-buffer
-    slice-write-buffer
-    cast-buffer-2
-    add-buffer
+    (λ c κs. search needs)  -- eight-digits-requires
+    (λ c. search needs)  -- cast-buffer
+    (λ c. search needs)  -- slice-write-buffer
+    (λ c. search needs)  -- cast-buffer-2
+    (λ c. search needs)  -- add-buffer
     slice-write-buffer-2
-    cast-buffer-3
-    add-buffer-2
+    (λ c. search needs)  -- cast-buffer-3
+    (λ c. search needs)  -- add-buffer-2
     slice-write-buffer-3
-    cast-buffer-4
-    add-buffer-3
+    (λ c. search needs)  -- cast-buffer-4
+    (λ c. search needs)  -- add-buffer-3
     slice-write-buffer-4
-    cast-buffer-5
-    add-buffer-4
+    (λ c. search needs)  -- cast-buffer-5
+    (λ c. search needs)  -- add-buffer-4
     slice-write-buffer-5
-    cast-buffer-6
-    add-buffer-5
+    (λ c. search needs)  -- cast-buffer-6
+    (λ c. search needs)  -- add-buffer-5
     slice-write-buffer-6
-    cast-buffer-7
-    add-buffer-6
+    (λ c. search needs)  -- cast-buffer-7
+    (λ c. search needs)  -- add-buffer-6
     slice-write-buffer-7
-    cast-buffer-8
-    add-buffer-7
+    (λ c. search needs)  -- cast-buffer-8
+    (λ c. search needs)  -- add-buffer-7
     slice-write-buffer-8
     same-length
     returns)

@@ -15,15 +15,6 @@ returns c =
     let a = c .before .before .before .args in
     promised-unread (a .text .now) (a .buffer .now) (text-long (a .text .now) (c .if1 .taken)) refl
 
-slice-aggregate-read-list : tie.Need-slice-aggregate-read-list
-slice-aggregate-read-list c = search needs
-
-read-list-requires : tie.Need-read-list-requires
-read-list-requires c κs = search needs
-
-enum-known-groups : tie.Need-enum-known-groups
-enum-known-groups c = search needs
-
 array-share-prefix-cells : tie.Need-array-share-prefix-cells
 array-share-prefix-cells c =
     let told = c .before in
@@ -38,15 +29,6 @@ slice-aggregate-build c =
     let read = told .before .before .before in
     let answer = sym (ap listOutcome (told .groups .given .1)) ∙ read .read-list .ensures .0 in
     (read-into _ tagsMax _ answer (read .read-list .ensures .1) refl) .counted
-
-build-requires : tie.Need-build-requires
-build-requires c κs = search needs
-
-enum-known-refusal : tie.Need-enum-known-refusal
-enum-known-refusal c = search needs
-
-same-length : tie.Need-same-length
-same-length c = search needs
 
 returns-2 : tie.Need-returns-2
 returns-2 c =
@@ -74,13 +56,13 @@ build-from-text-spec =
     tie.close
     (tie.spec
     returns
-    slice-aggregate-read-list
-    read-list-requires
-    enum-known-groups
+    (λ c. search needs)  -- slice-aggregate-read-list
+    (λ c κs. search needs)  -- read-list-requires
+    (λ c. search needs)  -- enum-known-groups
     array-share-prefix-cells
     slice-aggregate-build
-    build-requires
-    enum-known-refusal
-    same-length
+    (λ c κs. search needs)  -- build-requires
+    (λ c. search needs)  -- enum-known-refusal
+    (λ c. search needs)  -- same-length
     returns-2
     returns-3)

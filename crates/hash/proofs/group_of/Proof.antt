@@ -4,12 +4,13 @@ use Rattle.hash.specs.Formula.{groupOf}
 use Rattle.hash.proofs.group_of.Statement.{statement}
 use Rattle.hash.proofs.group_of.Tie as tie
 
-hashed-requires : tie.Need-hashed-requires
-hashed-requires c κs = search needs
-
 returns : tie.Need-returns
 unfolding groupOf
 returns c = search needs
 
 pub group-of-spec : {M : Type 1} → statement M
-group-of-spec = tie.close (tie.spec hashed-requires returns)
+group-of-spec =
+    tie.close
+    (tie.spec
+    (λ c κs. search needs)  -- hashed-requires
+    returns)

@@ -4,15 +4,14 @@ use Rattle.hash.specs.Formula.{hashed}
 use Rattle.hash.proofs.hashed.Statement.{statement}
 use Rattle.hash.proofs.hashed.Tie as tie
 
-wrapping-multiply-requires : tie.Need-wrapping-multiply-requires
-wrapping-multiply-requires c κs = search needs
-
-high-part-requires : tie.Need-high-part-requires
-high-part-requires c κs = search needs
-
 returns : tie.Need-returns
 unfolding hashed
 returns c = cc
 
 pub hashed-spec : {M : Type 1} → statement M
-hashed-spec = tie.close (tie.spec wrapping-multiply-requires high-part-requires returns)
+hashed-spec =
+    tie.close
+    (tie.spec
+    (λ c κs. search needs)  -- wrapping-multiply-requires
+    (λ c κs. search needs)  -- high-part-requires
+    returns)

@@ -4,21 +4,6 @@ use Rattle.hash.specs.Formula.{multiplier}
 use Rattle.hash.proofs.multiplier.Statement.{statement}
 use Rattle.hash.proofs.multiplier.Tie as tie
 
-mul-wrapping-multiply : tie.Need-mul-wrapping-multiply
-mul-wrapping-multiply c = search needs
-
-mul-wrapping-multiply-2 : tie.Need-mul-wrapping-multiply-2
-mul-wrapping-multiply-2 c = search needs
-
-add-wrapping-multiply : tie.Need-add-wrapping-multiply
-add-wrapping-multiply c = search needs
-
-add-wrapping-multiply-2 : tie.Need-add-wrapping-multiply-2
-add-wrapping-multiply-2 c = search needs
-
-wrapping-multiply-requires : tie.Need-wrapping-multiply-requires
-wrapping-multiply-requires c κs = search needs
-
 returns : tie.Need-returns
 unfolding multiplier
 returns c = search needs
@@ -27,9 +12,9 @@ pub multiplier-spec : {M : Type 1} → statement M
 multiplier-spec =
     tie.close
     (tie.spec
-    mul-wrapping-multiply
-    mul-wrapping-multiply-2
-    add-wrapping-multiply
-    add-wrapping-multiply-2
-    wrapping-multiply-requires
+    (λ c. search needs)  -- mul-wrapping-multiply
+    (λ c. search needs)  -- mul-wrapping-multiply-2
+    (λ c. search needs)  -- add-wrapping-multiply
+    (λ c. search needs)  -- add-wrapping-multiply-2
+    (λ c κs. search needs)  -- wrapping-multiply-requires
     returns)

@@ -4,15 +4,14 @@ use Rattle.hash.specs.Formula.{placeOf}
 use Rattle.hash.proofs.place_of.Statement.{statement}
 use Rattle.hash.proofs.place_of.Tie as tie
 
-multiplier-requires : tie.Need-multiplier-requires
-multiplier-requires c κs = search needs
-
-hashed-requires : tie.Need-hashed-requires
-hashed-requires c κs = search needs
-
 returns : tie.Need-returns
 unfolding placeOf
 returns c = cc
 
 pub place-of-spec : {M : Type 1} → statement M
-place-of-spec = tie.close (tie.spec multiplier-requires hashed-requires returns)
+place-of-spec =
+    tie.close
+    (tie.spec
+    (λ c κs. search needs)  -- multiplier-requires
+    (λ c κs. search needs)  -- hashed-requires
+    returns)

@@ -8,9 +8,6 @@ use Rattle.hash.specs.OneTagLaws.{one-tag-size, one-tag-seed, one-tag-ch
 use Rattle.hash.proofs.place_of_one_tag.Statement.{statement}
 use Rattle.hash.proofs.place_of_one_tag.Tie as tie
 
-outside-requires : tie.Need-outside-requires
-outside-requires c κs = search needs
-
 returns : tie.Need-returns
 returns c =
     let a = c .before .before .args in
@@ -28,9 +25,6 @@ returns-3 c =
     let in-range : outside 1 groupMax (a .n) ≡ false = cc in
     sym (one-tag-choice (a .n) (a .seed) (a .choice) (a .tag) in-range (c .before .if2 .left) (c .if3 .taken))
 
-place-of-requires : tie.Need-place-of-requires
-place-of-requires c κs = search needs
-
 returns-4 : tie.Need-returns-4
 returns-4 c =
     let a = c .before .before .before .before .before .args in
@@ -40,4 +34,11 @@ returns-4 c =
 
 pub place-of-one-tag-spec : {M : Type 1} → statement M
 place-of-one-tag-spec =
-    tie.close (tie.spec outside-requires returns returns-2 returns-3 place-of-requires returns-4)
+    tie.close
+    (tie.spec
+    (λ c κs. search needs)  -- outside-requires
+    returns
+    returns-2
+    returns-3
+    (λ c κs. search needs)  -- place-of-requires
+    returns-4)

@@ -9,12 +9,14 @@ use Rattle.hash.proofs.wrapping_multiply.Tie as tie
 mul-result : tie.Need-mul-result
 mul-result c = record { fits = product-fits 32 (search needs) (search needs) }
 
-cast-result : tie.Need-cast-result
-cast-result c = search needs
-
 returns : tie.Need-returns
 unfolding product
 returns c = search needs
 
 pub wrapping-multiply-spec : {M : Type 1} → statement M
-wrapping-multiply-spec = tie.close (tie.spec mul-result cast-result returns)
+wrapping-multiply-spec =
+    tie.close
+    (tie.spec
+    mul-result
+    (λ c. search needs)  -- cast-result
+    returns)

@@ -13,15 +13,6 @@ insert-requires c κs =
     let pre = c .before .before .pre in
     ready _ _ _ (pre .0) (pre .1) false
 
-enum-known-a : tie.Need-enum-known-a
-enum-known-a c = search needs
-
-enum-told : tie.Need-enum-told
-enum-told c = search needs
-
-with-bit-requires : tie.Need-with-bit-requires
-with-bit-requires c κs = search needs
-
 insert-requires-2 : tie.Need-insert-requires-2
 unfolding withChoice
 insert-requires-2 c κs =
@@ -37,20 +28,11 @@ returns c =
     let second = rw (c .before .with-bit .ensures) at (c .insert2 .ensures) in
     second-stays _ _ _ (start .pre .0) (c .insert2 .result) first second
 
-with-bit-requires-2 : tie.Need-with-bit-requires-2
-with-bit-requires-2 c κs = search needs
-
 insert-requires-3 : tie.Need-insert-requires-3
 unfolding withChoice
 insert-requires-3 c κs =
     let pre = c .before .before .before .before .before .before .before .pre in
     rw (c .with-bit2 .ensures) (ready _ _ _ (pre .0) (pre .1) true)
-
-enum-known-b : tie.Need-enum-known-b
-enum-known-b c = search needs
-
-enum-told-2 : tie.Need-enum-told-2
-enum-told-2 c = search needs
 
 returns-2 : tie.Need-returns-2
 unfolding withChoice
@@ -62,12 +44,6 @@ returns-2 c =
     let first = rw (known .a .given .1) at (inserted .insert .ensures) in
     let second = rw (both .before .with-bit2 .ensures, c .enum-told2 .given .1) at (both .insert3 .ensures) in
     one-stays _ _ _ (start .pre .0) false _ first second
-
-add-lighter : tie.Need-add-lighter
-add-lighter c = search needs
-
-lighter-requires : tie.Need-lighter-requires
-lighter-requires c κs = search needs
 
 returns-3 : tie.Need-returns-3
 returns-3 c =
@@ -85,16 +61,16 @@ evicting-spec =
     tie.close
     (tie.spec
     insert-requires
-    enum-known-a
-    enum-told
-    with-bit-requires
+    (λ c. search needs)  -- enum-known-a
+    (λ c. search needs)  -- enum-told
+    (λ c κs. search needs)  -- with-bit-requires
     insert-requires-2
     returns
-    with-bit-requires-2
+    (λ c κs. search needs)  -- with-bit-requires-2
     insert-requires-3
-    enum-known-b
-    enum-told-2
+    (λ c. search needs)  -- enum-known-b
+    (λ c. search needs)  -- enum-told-2
     returns-2
-    add-lighter
-    lighter-requires
+    (λ c. search needs)  -- add-lighter
+    (λ c κs. search needs)  -- lighter-requires
     returns-3)

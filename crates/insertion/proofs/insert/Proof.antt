@@ -45,9 +45,6 @@ still : (c : tie.Else2 Inv-loop μ-loop)
     ≡ choiceNumber (choiceIn (entry (loop (busy c)) .args .word) (o (busy c)))
 still c = sym (c .before .before .choice-at .ensures) ∙ c .if2 .left ∙ c .before .choice-at2 .ensures
 
-place-taken-requires : tie.Need-place-taken-requires Inv-loop μ-loop
-place-taken-requires c κs = search needs
-
 loop-holds : tie.Need-loop-holds Inv-loop μ-loop
 loop-holds c =
     let start = c .before .before .before in
@@ -56,22 +53,10 @@ loop-holds c =
     let begun = inserting-start (a .places .now) (a .k) (a .word) (start .pre .0 .2) (start .pre .1 .0) in
     rw (c .place-taken .ensures) (below, begun)
 
-cast-occupant : tie.Need-cast-occupant Inv-loop μ-loop
-cast-occupant c = search needs
-
-mul-occupant : tie.Need-mul-occupant Inv-loop μ-loop
-mul-occupant c = search needs
-
-shared-slice-read-occupant : tie.Need-shared-slice-read-occupant Inv-loop μ-loop
-shared-slice-read-occupant c = search needs
-
 returns : tie.Need-returns Inv-loop μ-loop
 returns c =
     let at = c .before .before in
     inserting-done _ (at .loop .inv .1) (entry at .pre .1 .1) (entry at .pre .1 .0) (c .if1 .taken)
-
-sub-o : tie.Need-sub-o Inv-loop μ-loop
-sub-o c = search needs
 
 choice-at-requires : tie.Need-choice-at-requires Inv-loop μ-loop
 choice-at-requires c κs = omega (arith, below c)
@@ -104,12 +89,6 @@ other-place-requires c κs =
     let lower = below (busy unmoved) in
     ((omega arith, candidates-fewer _ (omega arith) (entry at .pre .0 .1)), part)
 
-sub-evictions : tie.Need-sub-evictions Inv-loop μ-loop
-sub-evictions c = search needs
-
-loop-less : tie.Need-loop-less Inv-loop μ-loop
-loop-less c = search needs
-
 loop-again : tie.Need-loop-again Inv-loop μ-loop
 loop-again c =
     let unmoved = c .before .before .before in
@@ -123,19 +102,19 @@ insert-spec =
     (tie.spec
     Inv-loop
     μ-loop
-    place-taken-requires
+    (λ c κs. search needs)  -- place-taken-requires
     loop-holds
-    cast-occupant
-    mul-occupant
-    shared-slice-read-occupant
+    (λ c. search needs)  -- cast-occupant
+    (λ c. search needs)  -- mul-occupant
+    (λ c. search needs)  -- shared-slice-read-occupant
     returns
-    sub-o
+    (λ c. search needs)  -- sub-o
     choice-at-requires
     choice-at-requires-2
     returns-2
     returns-3
     toggled-requires
     other-place-requires
-    sub-evictions
-    loop-less
+    (λ c. search needs)  -- sub-evictions
+    (λ c. search needs)  -- loop-less
     loop-again)

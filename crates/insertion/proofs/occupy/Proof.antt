@@ -32,18 +32,6 @@ below c = entry (c .before) .pre .0 .1 .below (c .before .loop2 .i) (c .loop2-te
 loop-holds : tie.Need-loop-holds Inv-loop μ-loop Inv-loop2 μ-loop2
 loop-holds c = (omega arith, record { size = c .before .pre .0 .2; clear = λ u lt. absurd (omega arith) })
 
-mul-occupants : tie.Need-mul-occupants Inv-loop μ-loop Inv-loop2 μ-loop2
-mul-occupants c = search needs
-
-element-write-occupants : tie.Need-element-write-occupants Inv-loop μ-loop Inv-loop2 μ-loop2
-element-write-occupants c = search needs
-
-add-v : tie.Need-add-v Inv-loop μ-loop Inv-loop2 μ-loop2
-add-v c = search needs
-
-loop-less : tie.Need-loop-less Inv-loop μ-loop Inv-loop2 μ-loop2
-loop-less c = search needs
-
 loop-again : tie.Need-loop-again Inv-loop μ-loop Inv-loop2 μ-loop2
 loop-again c =
     let at = c .before in
@@ -55,26 +43,8 @@ loop2-holds c =
     let all : at .v ≡ groupMax = omega arith in
     (omega arith, occupied-none _ _ (rw all at (at .inv .1)))
 
-place-taken-requires : tie.Need-place-taken-requires Inv-loop μ-loop Inv-loop2 μ-loop2
-place-taken-requires c κs = search needs
-
-cast-place : tie.Need-cast-place Inv-loop μ-loop Inv-loop2 μ-loop2
-cast-place c = search needs
-
-add-occupants : tie.Need-add-occupants Inv-loop μ-loop Inv-loop2 μ-loop2
-add-occupants c = search needs
-
-mul-occupants-2 : tie.Need-mul-occupants-2 Inv-loop μ-loop Inv-loop2 μ-loop2
-mul-occupants-2 c = search needs
-
 element-write-occupants-2 : tie.Need-element-write-occupants-2 Inv-loop μ-loop Inv-loop2 μ-loop2
 element-write-occupants-2 c = omega (arith, c .place-taken .ensures, below (c .before))
-
-add-i : tie.Need-add-i Inv-loop μ-loop Inv-loop2 μ-loop2
-add-i c = search needs
-
-loop2-less : tie.Need-loop2-less Inv-loop μ-loop Inv-loop2 μ-loop2
-loop2-less c = search needs
 
 loop2-again : tie.Need-loop2-again Inv-loop μ-loop Inv-loop2 μ-loop2
 loop2-again c =
@@ -98,18 +68,18 @@ occupy-spec =
     Inv-loop2
     μ-loop2
     loop-holds
-    mul-occupants
-    element-write-occupants
-    add-v
-    loop-less
+    (λ c. search needs)  -- mul-occupants
+    (λ c. search needs)  -- element-write-occupants
+    (λ c. search needs)  -- add-v
+    (λ c. search needs)  -- loop-less
     loop-again
     loop2-holds
-    place-taken-requires
-    cast-place
-    add-occupants
-    mul-occupants-2
+    (λ c κs. search needs)  -- place-taken-requires
+    (λ c. search needs)  -- cast-place
+    (λ c. search needs)  -- add-occupants
+    (λ c. search needs)  -- mul-occupants-2
     element-write-occupants-2
-    add-i
-    loop2-less
+    (λ c. search needs)  -- add-i
+    (λ c. search needs)  -- loop2-less
     loop2-again
     returns)

@@ -7,21 +7,6 @@ use Rattle.places.specs.Array.{entryOf}
 use Rattle.insertion.proofs.other_place.Statement.{statement}
 use Rattle.insertion.proofs.other_place.Tie as tie
 
-mul-result : tie.Need-mul-result
-mul-result c = search needs
-
-shared-slice-read-result : tie.Need-shared-slice-read-result
-shared-slice-read-result c = search needs
-
-add-result : tie.Need-add-result
-add-result c = search needs
-
-mul-result-2 : tie.Need-mul-result-2
-mul-result-2 c = search needs
-
-shared-slice-read-result-2 : tie.Need-shared-slice-read-result-2
-shared-slice-read-result-2 c = search needs
-
 add-result-2 : tie.Need-add-result-2
 unfolding entryOf
 add-result-2 c =
@@ -41,11 +26,11 @@ pub other-place-spec : {M : Type 1} → statement M
 other-place-spec =
     tie.close
     (tie.spec
-    mul-result
-    shared-slice-read-result
-    add-result
-    mul-result-2
-    shared-slice-read-result-2
+    (λ c. search needs)  -- mul-result
+    (λ c. search needs)  -- shared-slice-read-result
+    (λ c. search needs)  -- add-result
+    (λ c. search needs)  -- mul-result-2
+    (λ c. search needs)  -- shared-slice-read-result-2
     add-result-2
     sub-result
     returns)

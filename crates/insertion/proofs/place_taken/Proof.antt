@@ -9,24 +9,6 @@ use Rattle.places.specs.Array.{entryOf}
 use Rattle.insertion.proofs.place_taken.Statement.{statement}
 use Rattle.insertion.proofs.place_taken.Tie as tie
 
-choice-at-requires : tie.Need-choice-at-requires
-choice-at-requires c κs = search needs
-
-add-result : tie.Need-add-result
-add-result c = search needs
-
-mul-result : tie.Need-mul-result
-mul-result c = search needs
-
-shared-slice-read-result : tie.Need-shared-slice-read-result
-shared-slice-read-result c = search needs
-
-mul-result-2 : tie.Need-mul-result-2
-mul-result-2 c = search needs
-
-shared-slice-read-result-2 : tie.Need-shared-slice-read-result-2
-shared-slice-read-result-2 c = search needs
-
 returns : tie.Need-returns
 unfolding entryOf
 returns c =
@@ -49,11 +31,11 @@ pub place-taken-spec : {M : Type 1} → statement M
 place-taken-spec =
     tie.close
     (tie.spec
-    choice-at-requires
-    add-result
-    mul-result
-    shared-slice-read-result
-    mul-result-2
-    shared-slice-read-result-2
+    (λ c κs. search needs)  -- choice-at-requires
+    (λ c. search needs)  -- add-result
+    (λ c. search needs)  -- mul-result
+    (λ c. search needs)  -- shared-slice-read-result
+    (λ c. search needs)  -- mul-result-2
+    (λ c. search needs)  -- shared-slice-read-result-2
     returns
     returns-2)

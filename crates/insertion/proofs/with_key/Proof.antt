@@ -24,12 +24,6 @@ second : (c : tie.Start) → getD (c .args .places .now) (groupMax + c .args .k)
 unfolding entryOf
 second c = place-within _ _ _ (c .pre .0) true
 
-mul-first : tie.Need-mul-first
-mul-first c = search needs
-
-shared-slice-read-first : tie.Need-shared-slice-read-first
-shared-slice-read-first c = search needs
-
 cast-first : tie.Need-cast-first
 cast-first c = record { fits = omega (arith, first (c .before .before)) }
 
@@ -38,9 +32,6 @@ mul-if1 c = record { fits = omega (arith, first (c .before .before)) }
 
 element-copy-out-if1 : tie.Need-element-copy-out-if1
 element-copy-out-if1 c = omega (arith, first (c .before .before))
-
-add-occupants : tie.Need-add-occupants
-add-occupants c = search needs
 
 mul-occupants : tie.Need-mul-occupants
 mul-occupants c = record { fits = omega (arith, first (c .before .before .before .before)) }
@@ -54,15 +45,6 @@ returns c =
     let pre = c .before .before .before .before .pre in
     (first-free _ _ _ (pre .0) (pre .1) (c .if1 .taken), free-occupied _ _ _ (pre .0) (pre .1) false (c .if1 .taken))
 
-add-second : tie.Need-add-second
-add-second c = search needs
-
-mul-second : tie.Need-mul-second
-mul-second c = search needs
-
-shared-slice-read-second : tie.Need-shared-slice-read-second
-shared-slice-read-second c = search needs
-
 cast-second : tie.Need-cast-second
 cast-second c = record { fits = omega (arith, second (c .before .before .before .before .before)) }
 
@@ -72,17 +54,11 @@ mul-if2 c = record { fits = omega (arith, second (c .before .before .before .bef
 element-copy-out-if2 : tie.Need-element-copy-out-if2
 element-copy-out-if2 c = omega (arith, second (c .before .before .before .before .before))
 
-add-occupants-2 : tie.Need-add-occupants-2
-add-occupants-2 c = search needs
-
 mul-occupants-2 : tie.Need-mul-occupants-2
 mul-occupants-2 c = record { fits = omega (arith, second (c .before .before .before .before .before .before .before)) }
 
 element-write-occupants-2 : tie.Need-element-write-occupants-2
 element-write-occupants-2 c = omega (arith, second (c .before .before .before .before .before .before .before))
-
-with-bit-requires : tie.Need-with-bit-requires
-with-bit-requires c κs = search needs
 
 returns-2 : tie.Need-returns-2
 unfolding occupantsAfter entryOf withChoice
@@ -95,21 +71,9 @@ returns-2 c =
       free-occupied _ _ _ (pre .0) (pre .1) true (second .if2 .taken),
     )
 
-evicting-requires : tie.Need-evicting-requires
-evicting-requires c κs = search needs
-
-enum-known-next : tie.Need-enum-known-next
-enum-known-next c = search needs
-
-enum-told : tie.Need-enum-told
-enum-told c = search needs
-
 returns-3 : tie.Need-returns-3
 unfolding occupantsAfter
 returns-3 c = (rw (c .enum-told .given .1) at (c .before .before .evicting .ensures), refl)
-
-add-occupy : tie.Need-add-occupy
-add-occupy c = search needs
 
 occupy-requires : tie.Need-occupy-requires
 occupy-requires c κs =
@@ -132,30 +96,30 @@ pub with-key-spec : {M : Type 1} → statement M
 with-key-spec =
     tie.close
     (tie.spec
-    mul-first
-    shared-slice-read-first
+    (λ c. search needs)  -- mul-first
+    (λ c. search needs)  -- shared-slice-read-first
     cast-first
     mul-if1
     element-copy-out-if1
-    add-occupants
+    (λ c. search needs)  -- add-occupants
     mul-occupants
     element-write-occupants
     returns
-    add-second
-    mul-second
-    shared-slice-read-second
+    (λ c. search needs)  -- add-second
+    (λ c. search needs)  -- mul-second
+    (λ c. search needs)  -- shared-slice-read-second
     cast-second
     mul-if2
     element-copy-out-if2
-    add-occupants-2
+    (λ c. search needs)  -- add-occupants-2
     mul-occupants-2
     element-write-occupants-2
-    with-bit-requires
+    (λ c κs. search needs)  -- with-bit-requires
     returns-2
-    evicting-requires
-    enum-known-next
-    enum-told
+    (λ c κs. search needs)  -- evicting-requires
+    (λ c. search needs)  -- enum-known-next
+    (λ c. search needs)  -- enum-told
     returns-3
-    add-occupy
+    (λ c. search needs)  -- add-occupy
     occupy-requires
     returns-4)

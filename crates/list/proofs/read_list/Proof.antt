@@ -18,7 +18,8 @@ use Rattle.text.specs.TagLinesLaws.{stored-length, stored-tags}
 use Rattle.text.specs.Answer.{pairMeaning}
 use Rattle.list.specs.Reading.{malformed, lineCount, tagCount, tagsFrom, listedIn, readingOf, cellsAfter}
 use Rattle.list.specs.Answer.{ListHead, headOf}
-use Rattle.list.specs.ReadingLaws.{Whole, header-malformed, malformed-lines, tags-on, tagsFrom-length, head-is, read-short, read-uneven, read-header-malformed, read-malformed, read-many, read-narrow, read-answered}
+use Rattle.list.specs.ReadingLaws.{Whole, header-malformed, malformed-lines, tags-on, tagsFrom-length, head-is, read-short}
+use Rattle.list.specs.ReadingLaws.{read-uneven, read-header-malformed, read-malformed, read-many, read-narrow, read-answered}
 use Rattle.list.proofs.read_list.Statement.{statement}
 use Rattle.list.proofs.read_list.Tie as tie
 
@@ -59,17 +60,11 @@ unfolding lineCount
 found c e =
     malformed-lines _ (header (opened c .before .before) (opened c .groups .given .1)) _ (c .read-tag-lines .ensures .0) ∙ ap firstMeaning e
 
-malformed-requires : tie.Need-malformed-requires
-malformed-requires c κs = search needs
-
 returns : tie.Need-returns
 unfolding Promised
 returns c =
     let a = c .before .before .before .before .args in
     refuses (a .text .now) (a .cells .now) (read-short (a .text .now) _ (c .before .if1 .taken)) (c .malformed .ensures)
-
-malformed-requires-2 : tie.Need-malformed-requires-2
-malformed-requires-2 c κs = search needs
 
 returns-2 : tie.Need-returns-2
 unfolding Promised
@@ -78,18 +73,6 @@ returns-2 c =
     let a = long .before .before .before .args in
     let text = a .text .now in
     refuses text (a .cells .now) (read-uneven text _ (long .if1 .left) (c .before .if2 .taken)) (c .malformed2 .ensures)
-
-read-list-header-requires : tie.Need-read-list-header-requires
-read-list-header-requires c κs = search needs
-
-enum-known-groups : tie.Need-enum-known-groups
-enum-known-groups c = search needs
-
-enum-told : tie.Need-enum-told
-enum-told c = search needs
-
-malformed-requires-3 : tie.Need-malformed-requires-3
-malformed-requires-3 c κs = search needs
 
 returns-3 : tie.Need-returns-3
 unfolding Promised
@@ -103,12 +86,6 @@ read-tag-lines-requires c κs =
     let long = c .before .before .before .before .before .before in
     ((omega (arith, long .if1 .left), omega arith), refl)
 
-enum-known-k : tie.Need-enum-known-k
-enum-known-k c = search needs
-
-malformed-requires-4 : tie.Need-malformed-requires-4
-malformed-requires-4 c κs = search needs
-
 returns-4 : tie.Need-returns-4
 unfolding Promised
 returns-4 c =
@@ -116,12 +93,6 @@ returns-4 c =
     let read = opened (told .before .before) .before .before in
     refuses (text read) _ (read-malformed (text read) _ (whole read) (found (told .before .before) (told .k .given .1)))
     (c .malformed4 .ensures)
-
-enum-told-2 : tie.Need-enum-told-2
-enum-told-2 c = search needs
-
-sub-count : tie.Need-sub-count
-sub-count c = search needs
 
 returns-5 : tie.Need-returns-5
 unfolding Promised tagCount lineCount
@@ -152,9 +123,6 @@ copy-requires c κs =
     let long = ap length (scanned .read-tag-lines .ensures .1) ∙ stored-length _ _ _ _ in
     (omega (arith, long, wide .before .if3 .left), wide .if4 .left)
 
-same-length : tie.Need-same-length
-same-length c = search needs
-
 returns-7 : tie.Need-returns-7
 unfolding Promised tagCount lineCount
 returns-7 c =
@@ -176,24 +144,24 @@ pub read-list-spec : {M : Type 1} → statement M
 read-list-spec =
     tie.close
     (tie.spec
-    malformed-requires
+    (λ c κs. search needs)  -- malformed-requires
     returns
-    malformed-requires-2
+    (λ c κs. search needs)  -- malformed-requires-2
     returns-2
-    read-list-header-requires
-    enum-known-groups
-    enum-told
-    malformed-requires-3
+    (λ c κs. search needs)  -- read-list-header-requires
+    (λ c. search needs)  -- enum-known-groups
+    (λ c. search needs)  -- enum-told
+    (λ c κs. search needs)  -- malformed-requires-3
     returns-3
     read-tag-lines-requires
-    enum-known-k
-    malformed-requires-4
+    (λ c. search needs)  -- enum-known-k
+    (λ c κs. search needs)  -- malformed-requires-4
     returns-4
-    enum-told-2
-    sub-count
+    (λ c. search needs)  -- enum-told-2
+    (λ c. search needs)  -- sub-count
     returns-5
     returns-6
     slice-aggregate-copy
     copy-requires
-    same-length
+    (λ c. search needs)  -- same-length
     returns-7)

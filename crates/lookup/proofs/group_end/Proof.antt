@@ -12,31 +12,10 @@ use Rattle.lookup.specs.StepsLaws.{end-of-last, end-of-next}
 use Rattle.lookup.proofs.group_end.Statement.{statement}
 use Rattle.lookup.proofs.group_end.Tie as tie
 
-add-next : tie.Need-add-next
-add-next c = search needs
-
 returns : tie.Need-returns
 returns c =
     let start = c .before .before in
     sym (end-of-last (start .args .image .now) (start .pre .0) (start .args .g) (omega arith))
-
-cast-read-group-line : tie.Need-cast-read-group-line
-cast-read-group-line c = search needs
-
-add-read-group-line : tie.Need-add-read-group-line
-add-read-group-line c = search needs
-
-mul-read-group-line : tie.Need-mul-read-group-line
-mul-read-group-line c = search needs
-
-read-group-line-requires : tie.Need-read-group-line-requires
-read-group-line-requires c κs = search needs
-
-enum-known-start : tie.Need-enum-known-start
-enum-known-start c = search needs
-
-enum-told : tie.Need-enum-told
-enum-told c = search needs
 
 returns-2 : tie.Need-returns-2
 returns-2 c =
@@ -60,13 +39,13 @@ pub group-end-spec : {M : Type 1} → statement M
 group-end-spec =
     tie.close
     (tie.spec
-    add-next
+    (λ c. search needs)  -- add-next
     returns
-    cast-read-group-line
-    add-read-group-line
-    mul-read-group-line
-    read-group-line-requires
-    enum-known-start
-    enum-told
+    (λ c. search needs)  -- cast-read-group-line
+    (λ c. search needs)  -- add-read-group-line
+    (λ c. search needs)  -- mul-read-group-line
+    (λ c κs. search needs)  -- read-group-line-requires
+    (λ c. search needs)  -- enum-known-start
+    (λ c. search needs)  -- enum-told
     returns-2
     returns-3)

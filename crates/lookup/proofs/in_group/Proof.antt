@@ -48,35 +48,12 @@ answers : (c : tie.After-group-of) {outcome : Outcome Found} → outcome ≡ gro
 answers c e = rw (← c .group-of .ensures) e
 
 -- The group's own line, its end, and whether it is faulty.
-own : (c : tie.After-start) → groupLine (lineAt (1 + g (grouped c)) (image (grouped c))) ≡ some (c .start .given .0 .0, c .start .given .0 .1 .0)
+own : (c : tie.After-start)
+    → groupLine (lineAt (1 + g (grouped c)) (image (grouped c))) ≡ some (c .start .given .0 .0, c .start .given .0 .1 .0)
 own c = line-reads pairMeaning groupLine (image (grouped c)) _ _ (c .before .before .read-group-line .ensures) (c .start .given .1) refl
 
 ends : (c : tie.After-end) → endOf (viewOf (image (grouped (started c)))) (g (grouped (started c))) ≡ some (c .end .given .0 .0)
 ends c = sym (c .before .before .group-end .ensures) ∙ ap endMeaning (c .end .given .1)
-
-group-of-requires : tie.Need-group-of-requires
-group-of-requires c κs = search needs
-
-cast-line : tie.Need-cast-line
-cast-line c = search needs
-
-add-line : tie.Need-add-line
-add-line c = search needs
-
-mul-read-group-line : tie.Need-mul-read-group-line
-mul-read-group-line c = search needs
-
-read-group-line-requires : tie.Need-read-group-line-requires
-read-group-line-requires c κs = search needs
-
-enum-known-start : tie.Need-enum-known-start
-enum-known-start c = search needs
-
-enum-told : tie.Need-enum-told
-enum-told c = search needs
-
-malformed-requires : tie.Need-malformed-requires
-malformed-requires c κs = search needs
 
 returns : tie.Need-returns
 returns c =
@@ -93,18 +70,6 @@ group-end-requires c κs =
     let start = at .before .before in
     (start .pre, rw (at .group-of .ensures) (group-below (start .args .groups) (tag at) (start .pre .groups-some)))
 
-enum-known-end : tie.Need-enum-known-end
-enum-known-end c = search needs
-
-enum-told-2 : tie.Need-enum-told-2
-enum-told-2 c = search needs
-
-add-malformed : tie.Need-add-malformed
-add-malformed c = search needs
-
-malformed-requires-2 : tie.Need-malformed-requires-2
-malformed-requires-2 c κs = search needs
-
 returns-2 : tie.Need-returns-2
 returns-2 c =
     let read = c .before .before .before in
@@ -115,15 +80,6 @@ returns-2 c =
     ∙ sym (next-malformed (image at) (tag at) (g at) _ (omega arith) _ _ (own begun)
     (sym (read .group-end .ensures) ∙ ap endMeaning (c .before .enum-told2 .given .1))))
 
-faulty-requires : tie.Need-faulty-requires
-faulty-requires c κs = search needs
-
-cast-faulty : tie.Need-cast-faulty
-cast-faulty c = search needs
-
-faulty-requires-2 : tie.Need-faulty-requires-2
-faulty-requires-2 c κs = search needs
-
 returns-3 : tie.Need-returns-3
 returns-3 c =
     let judged = c .before .before in
@@ -133,12 +89,6 @@ returns-3 c =
     answers at
     (c .faulty2 .ensures
     ∙ sym (group-faulty (image at) (tag at) (g at) _ (omega arith) _ _ (own begun) _ (ends (ended judged)) (rw fault)))
-
-cast-faulty-2 : tie.Need-cast-faulty-2
-cast-faulty-2 c = search needs
-
-faulty-requires-3 : tie.Need-faulty-requires-3
-faulty-requires-3 c κs = search needs
 
 returns-4 : tie.Need-returns-4
 returns-4 c =
@@ -174,27 +124,27 @@ pub in-group-spec : {M : Type 1} → statement M
 in-group-spec =
     tie.close
     (tie.spec
-    group-of-requires
-    cast-line
-    add-line
-    mul-read-group-line
-    read-group-line-requires
-    enum-known-start
-    enum-told
-    malformed-requires
+    (λ c κs. search needs)  -- group-of-requires
+    (λ c. search needs)  -- cast-line
+    (λ c. search needs)  -- add-line
+    (λ c. search needs)  -- mul-read-group-line
+    (λ c κs. search needs)  -- read-group-line-requires
+    (λ c. search needs)  -- enum-known-start
+    (λ c. search needs)  -- enum-told
+    (λ c κs. search needs)  -- malformed-requires
     returns
     group-end-requires
-    enum-known-end
-    enum-told-2
-    add-malformed
-    malformed-requires-2
+    (λ c. search needs)  -- enum-known-end
+    (λ c. search needs)  -- enum-told-2
+    (λ c. search needs)  -- add-malformed
+    (λ c κs. search needs)  -- malformed-requires-2
     returns-2
-    faulty-requires
-    cast-faulty
-    faulty-requires-2
+    (λ c κs. search needs)  -- faulty-requires
+    (λ c. search needs)  -- cast-faulty
+    (λ c κs. search needs)  -- faulty-requires-2
     returns-3
-    cast-faulty-2
-    faulty-requires-3
+    (λ c. search needs)  -- cast-faulty-2
+    (λ c κs. search needs)  -- faulty-requires-3
     returns-4
     in-slots-requires
     returns-5)

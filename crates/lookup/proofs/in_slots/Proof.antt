@@ -39,16 +39,10 @@ returns c =
     let a = c .before .before .args in
     sym (slots-empty (a .image .now) (a .start) (a .end) (a .seed) (a .tag) (c .if1 .taken))
 
-sub-n : tie.Need-sub-n Inv-loop μ-loop
-sub-n c = search needs
-
 loop-holds : tie.Need-loop-holds Inv-loop μ-loop
 loop-holds c =
     let a = c .before .before .args in
     record { few = omega arith; left = slots-filled (a .image .now) (a .start) (a .end) (a .seed) (a .tag) (c .if1 .left) }
-
-place-of-requires : tie.Need-place-of-requires Inv-loop μ-loop
-place-of-requires c κs = search needs
 
 add-slot : tie.Need-add-slot Inv-loop μ-loop
 add-slot c =
@@ -56,30 +50,6 @@ add-slot c =
     let a = loop .before .before .before .args in
     let inside = place-below (a .end - a .start) (a .seed) (loop .loop .choice) (a .tag) (omega (arith, loop .before .if1 .left)) in
     record { fits = omega (arith, c .place-of .ensures) }
-
-add-line : tie.Need-add-line Inv-loop μ-loop
-add-line c = search needs
-
-cast-line : tie.Need-cast-line Inv-loop μ-loop
-cast-line c = search needs
-
-add-line-2 : tie.Need-add-line-2 Inv-loop μ-loop
-add-line-2 c = search needs
-
-mul-read-slot-line : tie.Need-mul-read-slot-line Inv-loop μ-loop
-mul-read-slot-line c = search needs
-
-read-slot-line-requires : tie.Need-read-slot-line-requires Inv-loop μ-loop
-read-slot-line-requires c κs = search needs
-
-enum-known-held : tie.Need-enum-known-held Inv-loop μ-loop
-enum-known-held c = search needs
-
-enum-told : tie.Need-enum-told Inv-loop μ-loop
-enum-told c = search needs
-
-malformed-requires : tie.Need-malformed-requires Inv-loop μ-loop
-malformed-requires c κs = search needs
 
 returns-2 : tie.Need-returns-2 Inv-loop μ-loop
 returns-2 c =
@@ -109,12 +79,6 @@ returns-3 c =
     looked (a .image .now) (a .start) (a .end) (a .seed) (a .tag) _ (loop .loop .inv) (turn .loop-test .taken)
     (placed .place-of .ensures) in
     sym (left ∙ slot-holds (a .image .now) (a .groups) (a .tag) _ (start .pre .0) _ (line ∙ ap some (c .if2 .taken)))
-
-add-choice : tie.Need-add-choice Inv-loop μ-loop
-add-choice c = search needs
-
-loop-less : tie.Need-loop-less Inv-loop μ-loop
-loop-less c = search needs
 
 loop-again : tie.Need-loop-again Inv-loop μ-loop
 loop-again c =
@@ -148,21 +112,21 @@ in-slots-spec =
     Inv-loop
     μ-loop
     returns
-    sub-n
+    (λ c. search needs)  -- sub-n
     loop-holds
-    place-of-requires
+    (λ c κs. search needs)  -- place-of-requires
     add-slot
-    add-line
-    cast-line
-    add-line-2
-    mul-read-slot-line
-    read-slot-line-requires
-    enum-known-held
-    enum-told
-    malformed-requires
+    (λ c. search needs)  -- add-line
+    (λ c. search needs)  -- cast-line
+    (λ c. search needs)  -- add-line-2
+    (λ c. search needs)  -- mul-read-slot-line
+    (λ c κs. search needs)  -- read-slot-line-requires
+    (λ c. search needs)  -- enum-known-held
+    (λ c. search needs)  -- enum-told
+    (λ c κs. search needs)  -- malformed-requires
     returns-2
     returns-3
-    add-choice
-    loop-less
+    (λ c. search needs)  -- add-choice
+    (λ c. search needs)  -- loop-less
     loop-again
     returns-4)

@@ -9,19 +9,10 @@ use Rattle.lookup.specs.Condition2Laws.{lookup-condition2}
 use Rattle.lookup.proofs.lookup.Statement.{statement}
 use Rattle.lookup.proofs.lookup.Tie as tie
 
-open-requires : tie.Need-open-requires
-open-requires c κs = search needs
-
-enum-known-count : tie.Need-enum-known-count
-enum-known-count c = search needs
-
 in-group-requires : tie.Need-in-group-requires
 in-group-requires c κs =
     let opened = c .before .before .before in
     opening-answered _ (sym (opened .open .ensures) ∙ ap openedOutcome (c .before .count .given .1))
-
-enum-known-refusal : tie.Need-enum-known-refusal
-enum-known-refusal c = search needs
 
 returns : tie.Need-returns
 returns c =
@@ -44,4 +35,10 @@ returns-2 c =
 pub lookup-spec : {M : Type 1} → statement M
 lookup-spec =
     tie.close
-    (tie.spec open-requires enum-known-count in-group-requires enum-known-refusal returns returns-2)
+    (tie.spec
+    (λ c κs. search needs)  -- open-requires
+    (λ c. search needs)  -- enum-known-count
+    in-group-requires
+    (λ c. search needs)  -- enum-known-refusal
+    returns
+    returns-2)

@@ -9,15 +9,6 @@ use Rattle.opening.specs.OpeningLaws.{open-short, open-malformed, open-o
 use Rattle.opening.proofs.open.Statement.{statement}
 use Rattle.opening.proofs.open.Tie as tie
 
-read-image-header-requires : tie.Need-read-image-header-requires
-read-image-header-requires c κs = search needs
-
-enum-known-count : tie.Need-enum-known-count
-enum-known-count c = search needs
-
-enum-told : tie.Need-enum-told
-enum-told c = search needs
-
 returns : tie.Need-returns
 unfolding lineAt
 returns c =
@@ -46,12 +37,6 @@ add-if2-2 c =
     image-header-only _ _ (lineAt 0 image) (sym (read .read-image-header .ensures) ∙ ap pairMeaning (told .count .given .1)) in
     omega arith
 
-cast-if2 : tie.Need-cast-if2
-cast-if2 c = search needs
-
-mul-if2 : tie.Need-mul-if2
-mul-if2 c = search needs
-
 returns-2 : tie.Need-returns-2
 unfolding lineAt
 returns-2 c =
@@ -79,14 +64,14 @@ pub open-spec : {M : Type 1} → statement M
 open-spec =
     tie.close
     (tie.spec
-    read-image-header-requires
-    enum-known-count
-    enum-told
+    (λ c κs. search needs)  -- read-image-header-requires
+    (λ c. search needs)  -- enum-known-count
+    (λ c. search needs)  -- enum-told
     returns
     add-if2
     add-if2-2
-    cast-if2
-    mul-if2
+    (λ c. search needs)  -- cast-if2
+    (λ c. search needs)  -- mul-if2
     returns-2
     returns-3
     returns-4)

@@ -77,37 +77,16 @@ word-is c =
     let least = leastSeed-some (tags found) _ (seed-is found) in
     word-taken (tags found) (seed found) (c .least-choices .result) (rw (left found .1) at (c .least-choices .ensures)) _ (least .fills)
 
-outside-requires : tie.Need-outside-requires
-outside-requires c κs = search needs
-
-refuse-requires : tie.Need-refuse-requires
-refuse-requires c κs = search needs
-
 returns : tie.Need-returns
 unfolding placingChecks limitCheck ascendingCheck
 returns c =
     let ranged = c .before .before in
     c .refuse .ensures ∙ sym (placing-refused _ _ 4 tt (met-true (sym (ranged .outside .ensures) ∙ c .before .if1 .taken)))
 
-cast-if2 : tie.Need-cast-if2
-cast-if2 c = search needs
-
-refuse-requires-2 : tie.Need-refuse-requires-2
-refuse-requires-2 c κs = search needs
-
 returns-2 : tie.Need-returns-2
 unfolding placingChecks limitCheck ascendingCheck
 returns-2 c =
     c .refuse2 .ensures ∙ sym (placing-refused _ _ 5 (passed-4 (c .before .before)) (met-true (lt-ltb _ _ (c .before .if2 .taken))))
-
-first-not-above-requires : tie.Need-first-not-above-requires
-first-not-above-requires c κs = search needs
-
-enum-known-i : tie.Need-enum-known-i
-enum-known-i c = search needs
-
-refuse-requires-3 : tie.Need-refuse-requires-3
-refuse-requires-3 c κs = search needs
 
 returns-3 : tie.Need-returns-3
 unfolding placingChecks limitCheck ascendingCheck
@@ -118,22 +97,10 @@ returns-3 c =
     ∙ sym (placing-refused _ _ 6 (passed-5 (compared .before))
     (sym (compared .first-not-above .ensures) ∙ ap firstMeaning (met .i .given .1)))
 
-enum-told : tie.Need-enum-told
-enum-told c = search needs
-
 least-seed-requires : tie.Need-least-seed-requires
 least-seed-requires c κs =
     let p = placeable (c .before) in
     (few p, limit-legal p .1, refl)
-
-enum-known-seed : tie.Need-enum-known-seed
-enum-known-seed c = search needs
-
-enum-told-2 : tie.Need-enum-told-2
-enum-told-2 c = search needs
-
-refuse-requires-4 : tie.Need-refuse-requires-4
-refuse-requires-4 c κs = search needs
 
 returns-4 : tie.Need-returns-4
 returns-4 c =
@@ -144,22 +111,10 @@ returns-4 c =
 slice-aggregate-least-choices : tie.Need-slice-aggregate-least-choices
 slice-aggregate-least-choices c = sym (left (c .before .before) .0 .size)
 
-cast-least-choices : tie.Need-cast-least-choices
-cast-least-choices c = search needs
-
 least-choices-requires : tie.Need-least-choices-requires
 least-choices-requires c κs =
     let found = c .before .before in
     (few (placeable (passed found)), left found .0)
-
-enum-known-word : tie.Need-enum-known-word
-enum-known-word c = search needs
-
-enum-told-3 : tie.Need-enum-told-3
-enum-told-3 c = search needs
-
-refuse-requires-5 : tie.Need-refuse-requires-5
-refuse-requires-5 c κs = search needs
 
 returns-5 : tie.Need-returns-5
 returns-5 c =
@@ -178,27 +133,27 @@ pub place-group-spec : {M : Type 1} → statement M
 place-group-spec =
     tie.close
     (tie.spec
-    outside-requires
-    refuse-requires
+    (λ c κs. search needs)  -- outside-requires
+    (λ c κs. search needs)  -- refuse-requires
     returns
-    cast-if2
-    refuse-requires-2
+    (λ c. search needs)  -- cast-if2
+    (λ c κs. search needs)  -- refuse-requires-2
     returns-2
-    first-not-above-requires
-    enum-known-i
-    refuse-requires-3
+    (λ c κs. search needs)  -- first-not-above-requires
+    (λ c. search needs)  -- enum-known-i
+    (λ c κs. search needs)  -- refuse-requires-3
     returns-3
-    enum-told
+    (λ c. search needs)  -- enum-told
     least-seed-requires
-    enum-known-seed
-    enum-told-2
-    refuse-requires-4
+    (λ c. search needs)  -- enum-known-seed
+    (λ c. search needs)  -- enum-told-2
+    (λ c κs. search needs)  -- refuse-requires-4
     returns-4
     slice-aggregate-least-choices
-    cast-least-choices
+    (λ c. search needs)  -- cast-least-choices
     least-choices-requires
-    enum-known-word
-    enum-told-3
-    refuse-requires-5
+    (λ c. search needs)  -- enum-known-word
+    (λ c. search needs)  -- enum-told-3
+    (λ c κs. search needs)  -- refuse-requires-5
     returns-5
     returns-6)

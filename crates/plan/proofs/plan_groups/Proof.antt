@@ -33,9 +33,6 @@ loop-holds c =
     let a = c .before .before .args in
     planned-start (a .groups) (a .ordered .now) (a .ends .now) (a .limit) (a .seeds .now) (a .words .now)
 
-mul-end : tie.Need-mul-end Inv-loop μ-loop
-mul-end c = search needs
-
 shared-slice-read-end : tie.Need-shared-slice-read-end Inv-loop μ-loop
 shared-slice-read-end c = omega (arith, entry (c .before) .pre .0 .parts .known)
 
@@ -51,15 +48,6 @@ part-place-group-start c = bounds (c .before) .0
 part-place-group-end : tie.Need-part-place-group-end Inv-loop μ-loop
 part-place-group-end c = bounds (c .before) .1
 
-place-group-requires : tie.Need-place-group-requires Inv-loop μ-loop
-place-group-requires c κs = search needs
-
-enum-known-seed : tie.Need-enum-known-seed Inv-loop μ-loop
-enum-known-seed c = search needs
-
-enum-told : tie.Need-enum-told Inv-loop μ-loop
-enum-told c = search needs
-
 returns : tie.Need-returns Inv-loop μ-loop
 returns c =
     let placed = c .before .before in
@@ -67,24 +55,6 @@ returns c =
     let inv = turn .before .loop .inv in
     let outcome = sym (placed .place-group .ensures) ∙ ap placingOutcome (c .enum-told .given .1) in
     (sym (planned-without (entry turn .pre .0) inv (turn .loop-test .taken) outcome), (inv .seeds-are, inv .words-are))
-
-mul-seeds : tie.Need-mul-seeds Inv-loop μ-loop
-mul-seeds c = search needs
-
-element-write-seeds : tie.Need-element-write-seeds Inv-loop μ-loop
-element-write-seeds c = search needs
-
-mul-words : tie.Need-mul-words Inv-loop μ-loop
-mul-words c = search needs
-
-element-write-words : tie.Need-element-write-words Inv-loop μ-loop
-element-write-words c = search needs
-
-add-g : tie.Need-add-g Inv-loop μ-loop
-add-g c = search needs
-
-loop-less : tie.Need-loop-less Inv-loop μ-loop
-loop-less c = search needs
 
 loop-again : tie.Need-loop-again Inv-loop μ-loop
 loop-again c =
@@ -106,21 +76,21 @@ plan-groups-spec =
     Inv-loop
     μ-loop
     loop-holds
-    mul-end
+    (λ c. search needs)  -- mul-end
     shared-slice-read-end
     mul-place-group
     sub-place-group
     part-place-group-start
     part-place-group-end
-    place-group-requires
-    enum-known-seed
-    enum-told
+    (λ c κs. search needs)  -- place-group-requires
+    (λ c. search needs)  -- enum-known-seed
+    (λ c. search needs)  -- enum-told
     returns
-    mul-seeds
-    element-write-seeds
-    mul-words
-    element-write-words
-    add-g
-    loop-less
+    (λ c. search needs)  -- mul-seeds
+    (λ c. search needs)  -- element-write-seeds
+    (λ c. search needs)  -- mul-words
+    (λ c. search needs)  -- element-write-words
+    (λ c. search needs)  -- add-g
+    (λ c. search needs)  -- loop-less
     loop-again
     returns-2)

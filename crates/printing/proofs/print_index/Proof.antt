@@ -16,18 +16,6 @@ returns c =
     let a = c .before .before .before .args in
     printed-nothing (a .text .now) (a .out .now) (omega (arith, longest-is, c .if1 .taken))
 
-build-from-text-requires : tie.Need-build-from-text-requires
-build-from-text-requires c κs = search needs
-
-enum-known-size : tie.Need-enum-known-size
-enum-known-size c = search needs
-
-enum-known-refusal : tie.Need-enum-known-refusal
-enum-known-refusal c = search needs
-
-reason-number-requires : tie.Need-reason-number-requires
-reason-number-requires c κs = search needs
-
 cast-place : tie.Need-cast-place
 cast-place c =
     let told = c .before .before .before in
@@ -35,12 +23,6 @@ cast-place c =
     let a = built .before .before .before .before .before .args in
     let refused = sym (built .build-from-text .ensures .0) ∙ ap buildOutcome (told .refusal .given .1) in
     omega (arith, place-below textLines (from-text-place (a .text .now) _) refused)
-
-write-pair-line-requires : tie.Need-write-pair-line-requires
-write-pair-line-requires c κs = search needs
-
-same-length : tie.Need-same-length
-same-length c = search needs
 
 returns-2 : tie.Need-returns-2
 returns-2 c =
@@ -51,9 +33,6 @@ returns-2 c =
     let promised = built .build-from-text .ensures in
     printed-built (a .text .now) (a .out .now) (omega (arith, longest-is, roomy .if1 .left))
     (sym (promised .0) ∙ ap buildOutcome (told .size .given .1)) (promised .1 .0)
-
-same-length-2 : tie.Need-same-length-2
-same-length-2 c = search needs
 
 returns-3 : tie.Need-returns-3
 returns-3 c =
@@ -73,13 +52,13 @@ print-index-spec =
     tie.close
     (tie.spec
     returns
-    build-from-text-requires
-    enum-known-size
-    enum-known-refusal
-    reason-number-requires
+    (λ c κs. search needs)  -- build-from-text-requires
+    (λ c. search needs)  -- enum-known-size
+    (λ c. search needs)  -- enum-known-refusal
+    (λ c κs. search needs)  -- reason-number-requires
     cast-place
-    write-pair-line-requires
-    same-length
+    (λ c κs. search needs)  -- write-pair-line-requires
+    (λ c. search needs)  -- same-length
     returns-2
-    same-length-2
+    (λ c. search needs)  -- same-length-2
     returns-3)

@@ -53,17 +53,8 @@ place-of c = group-place (tags c) (seed c) _ (omega arith) (omega arith) (laid c
 within : (c : Laid) (i : ℕ) → i < length (tags c) → (choice : Bool) → entryOf (cells c) i choice < length (tags c)
 within c = group-within (tags c) (seed c) _ (omega arith) (omega arith) (laid c)
 
-candidate-places-requires : tie.Need-candidate-places-requires Inv-loop μ-loop
-candidate-places-requires c κs = search needs
-
 loop-holds : tie.Need-loop-holds Inv-loop μ-loop
 loop-holds c = (omega arith, sym (half-none false (keys c)), sym (half-none true (keys c)))
-
-mul-with-bit : tie.Need-mul-with-bit Inv-loop μ-loop
-mul-with-bit c = search needs
-
-element-copy-out-with-bit : tie.Need-element-copy-out-with-bit Inv-loop μ-loop
-element-copy-out-with-bit c = search needs
 
 with-bit-requires : tie.Need-with-bit-requires Inv-loop μ-loop
 unfolding entryOf
@@ -71,26 +62,11 @@ with-bit-requires c κs =
     let at = c .before .before in
     omega (arith, within (at .before) (at .loop .i) (omega arith) false)
 
-add-with-bit : tie.Need-add-with-bit Inv-loop μ-loop
-add-with-bit c = search needs
-
-mul-with-bit-2 : tie.Need-mul-with-bit-2 Inv-loop μ-loop
-mul-with-bit-2 c = search needs
-
-element-copy-out-with-bit-2 : tie.Need-element-copy-out-with-bit-2 Inv-loop μ-loop
-element-copy-out-with-bit-2 c = search needs
-
 with-bit-requires-2 : tie.Need-with-bit-requires-2 Inv-loop μ-loop
 unfolding entryOf
 with-bit-requires-2 c κs =
     let at = c .before .before .before .before in
     omega (arith, within (at .before) (at .loop .i) (omega arith) true)
-
-add-i : tie.Need-add-i Inv-loop μ-loop
-add-i c = search needs
-
-loop-less : tie.Need-loop-less Inv-loop μ-loop
-loop-less c = search needs
 
 loop-again : tie.Need-loop-again Inv-loop μ-loop
 unfolding entryOf
@@ -117,16 +93,16 @@ lay-out-spec =
     (tie.spec
     Inv-loop
     μ-loop
-    candidate-places-requires
+    (λ c κs. search needs)  -- candidate-places-requires
     loop-holds
-    mul-with-bit
-    element-copy-out-with-bit
+    (λ c. search needs)  -- mul-with-bit
+    (λ c. search needs)  -- element-copy-out-with-bit
     with-bit-requires
-    add-with-bit
-    mul-with-bit-2
-    element-copy-out-with-bit-2
+    (λ c. search needs)  -- add-with-bit
+    (λ c. search needs)  -- mul-with-bit-2
+    (λ c. search needs)  -- element-copy-out-with-bit-2
     with-bit-requires-2
-    add-i
-    loop-less
+    (λ c. search needs)  -- add-i
+    (λ c. search needs)  -- loop-less
     loop-again
     returns)

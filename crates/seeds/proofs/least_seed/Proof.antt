@@ -54,9 +54,6 @@ next-below c =
     let free = c .before in
     next-first (free .before .before .evict .inv) (more (free .before)) (free .if4 .taken) (omega arith)
 
-size-of-requires : tie.Need-size-of-requires Inv-evict μ-evict Inv-seeds μ-seeds
-size-of-requires c κs = search needs
-
 seeds-holds : tie.Need-seeds-holds Inv-evict μ-evict Inv-seeds μ-seeds
 seeds-holds c =
     let a = c .before .before .args in
@@ -69,15 +66,6 @@ returns c =
     let next-is : at .seeds .next ≡ at .before .before .before .args .limit = omega (arith, at .seeds .inv .upto) in
     (passed-out (omega arith) (at .seeds .inv) (c .if1 .taken), rw (← next-is) (at .seeds .inv .cells))
 
-add-next : tie.Need-add-next Inv-evict μ-evict Inv-seeds μ-seeds
-add-next c = search needs
-
-lay-out-requires : tie.Need-lay-out-requires Inv-evict μ-evict Inv-seeds μ-seeds
-lay-out-requires c κs = search needs
-
-seeds-less : tie.Need-seeds-less Inv-evict μ-evict Inv-seeds μ-seeds
-seeds-less c = search needs
-
 seeds-again : tie.Need-seeds-again Inv-evict μ-evict Inv-seeds μ-seeds
 seeds-again c =
     let laid = c .before in
@@ -85,12 +73,6 @@ seeds-again c =
     let tags = at .before .before .before .args .tags .now in
     passed-more (omega arith) (at .seeds .inv) (laid .lay-out .ensures .1) (omega arith)
     (dropped tags (at .seeds .next) (laid .lay-out .ensures .0) (λ e. c .if2 .taken (e ∙ sym (at .before .size-of .ensures))))
-
-element-copy-out-place : tie.Need-element-copy-out-place Inv-evict μ-evict Inv-seeds μ-seeds
-element-copy-out-place c = search needs
-
-element-copy-out-other : tie.Need-element-copy-out-other Inv-evict μ-evict Inv-seeds μ-seeds
-element-copy-out-other c = search needs
 
 evict-holds : tie.Need-evict-holds Inv-evict μ-evict Inv-seeds μ-seeds
 evict-holds c =
@@ -120,30 +102,6 @@ mul-others c = omega (arith, place-below c)
 array-write-others : tie.Need-array-write-others Inv-evict μ-evict Inv-seeds μ-seeds
 array-write-others c = omega (arith, place-below c)
 
-add-seated : tie.Need-add-seated Inv-evict μ-evict Inv-seeds μ-seeds
-add-seated c = search needs
-
-cast-place : tie.Need-cast-place Inv-evict μ-evict Inv-seeds μ-seeds
-cast-place c = search needs
-
-mul-place : tie.Need-mul-place Inv-evict μ-evict Inv-seeds μ-seeds
-mul-place c = search needs
-
-element-copy-out-place-2 : tie.Need-element-copy-out-place-2 Inv-evict μ-evict Inv-seeds μ-seeds
-element-copy-out-place-2 c = search needs
-
-cast-other : tie.Need-cast-other Inv-evict μ-evict Inv-seeds μ-seeds
-cast-other c = search needs
-
-add-other : tie.Need-add-other Inv-evict μ-evict Inv-seeds μ-seeds
-add-other c = search needs
-
-mul-other : tie.Need-mul-other Inv-evict μ-evict Inv-seeds μ-seeds
-mul-other c = search needs
-
-element-copy-out-other-2 : tie.Need-element-copy-out-other-2 Inv-evict μ-evict Inv-seeds μ-seeds
-element-copy-out-other-2 c = search needs
-
 cast-if6 : tie.Need-cast-if6 Inv-evict μ-evict Inv-seeds μ-seeds
 cast-if6 c = record { fits = omega (arith, next-below (c .before .before)) }
 
@@ -152,15 +110,6 @@ mul-if6 c = omega (arith, next-below (c .before .before))
 
 array-read-if6 : tie.Need-array-read-if6 Inv-evict μ-evict Inv-seeds μ-seeds
 array-read-if6 c = omega (arith, next-below (c .before .before))
-
-mul-left : tie.Need-mul-left Inv-evict μ-evict Inv-seeds μ-seeds
-mul-left c = search needs
-
-add-left : tie.Need-add-left Inv-evict μ-evict Inv-seeds μ-seeds
-add-left c = search needs
-
-evict-less : tie.Need-evict-less Inv-evict μ-evict Inv-seeds μ-seeds
-evict-less c = search needs
 
 evict-again : tie.Need-evict-again Inv-evict μ-evict Inv-seeds μ-seeds
 unfolding entryOf
@@ -176,9 +125,6 @@ evict-again c =
     rest)
     (c .if5 .came)
 
-seeds-less-2 : tie.Need-seeds-less-2 Inv-evict μ-evict Inv-seeds μ-seeds
-seeds-less-2 c = search needs
-
 seeds-again-2 : tie.Need-seeds-again-2 Inv-evict μ-evict Inv-seeds μ-seeds
 seeds-again-2 c =
     let turned = c .before .before in
@@ -187,15 +133,6 @@ seeds-again-2 c =
     let seeds = laid .before .before .before in
     passed-more (omega arith) (seeds .seeds .inv) (laid .lay-out .ensures .1) (omega arith)
     (turn-spent (at .evict .inv) (more turned) (c .before .if4 .left) (c .if7 .taken))
-
-sub-left : tie.Need-sub-left Inv-evict μ-evict Inv-seeds μ-seeds
-sub-left c = search needs
-
-sub-place : tie.Need-sub-place Inv-evict μ-evict Inv-seeds μ-seeds
-sub-place c = search needs
-
-evict-less-2 : tie.Need-evict-less-2 Inv-evict μ-evict Inv-seeds μ-seeds
-evict-less-2 c = search needs
 
 evict-again-2 : tie.Need-evict-again-2 Inv-evict μ-evict Inv-seeds μ-seeds
 evict-again-2 c =
@@ -221,15 +158,15 @@ least-seed-spec =
     μ-evict
     Inv-seeds
     μ-seeds
-    size-of-requires
+    (λ c κs. search needs)  -- size-of-requires
     seeds-holds
     returns
-    add-next
-    lay-out-requires
-    seeds-less
+    (λ c. search needs)  -- add-next
+    (λ c κs. search needs)  -- lay-out-requires
+    (λ c. search needs)  -- seeds-less
     seeds-again
-    element-copy-out-place
-    element-copy-out-other
+    (λ c. search needs)  -- element-copy-out-place
+    (λ c. search needs)  -- element-copy-out-other
     evict-holds
     cast-taken
     mul-taken
@@ -238,25 +175,25 @@ least-seed-spec =
     cast-others
     mul-others
     array-write-others
-    add-seated
-    cast-place
-    mul-place
-    element-copy-out-place-2
-    cast-other
-    add-other
-    mul-other
-    element-copy-out-other-2
+    (λ c. search needs)  -- add-seated
+    (λ c. search needs)  -- cast-place
+    (λ c. search needs)  -- mul-place
+    (λ c. search needs)  -- element-copy-out-place-2
+    (λ c. search needs)  -- cast-other
+    (λ c. search needs)  -- add-other
+    (λ c. search needs)  -- mul-other
+    (λ c. search needs)  -- element-copy-out-other-2
     cast-if6
     mul-if6
     array-read-if6
-    mul-left
-    add-left
-    evict-less
+    (λ c. search needs)  -- mul-left
+    (λ c. search needs)  -- add-left
+    (λ c. search needs)  -- evict-less
     evict-again
-    seeds-less-2
+    (λ c. search needs)  -- seeds-less-2
     seeds-again-2
-    sub-left
-    sub-place
-    evict-less-2
+    (λ c. search needs)  -- sub-left
+    (λ c. search needs)  -- sub-place
+    (λ c. search needs)  -- evict-less-2
     evict-again-2
     returns-2)

@@ -27,15 +27,14 @@ counts-at [] i k t lt = absurd (omega arith)
 counts-at (x ∷ xs) i zero t lt = eqb-true x i (both-of-and (eqb x i) (counts (suc i) xs) t .0) ∙ omega arith
 counts-at (x ∷ xs) i (suc k) t lt = counts-at xs (suc i) k (both-of-and (eqb x i) (counts (suc i) xs) t .1) (omega arith) ∙ omega arith
 
-mul-result : tie.Need-mul-result
-mul-result c = search needs
-
-array-read-result : tie.Need-array-read-result
-array-read-result c = search needs
-
 returns : tie.Need-returns
 unfolding sizes counts
 returns c = counts-at sizes 0 (length (c .args .tags .now)) refl (omega arith) ∙ omega arith
 
 pub size-of-spec : {M : Type 1} → statement M
-size-of-spec = tie.close (tie.spec mul-result array-read-result returns)
+size-of-spec =
+    tie.close
+    (tie.spec
+    (λ c. search needs)  -- mul-result
+    (λ c. search needs)  -- array-read-result
+    returns)

@@ -34,12 +34,6 @@ with-key-requires c κs =
     let pre = at .before .before .pre in
     ((omega arith, candidates-fewer _ (omega arith) (pre .1), inv .1), inv .2)
 
-enum-known-next : tie.Need-enum-known-next Inv-loop μ-loop
-enum-known-next c = search needs
-
-enum-told : tie.Need-enum-told Inv-loop μ-loop
-enum-told c = search needs
-
 returns : tie.Need-returns Inv-loop μ-loop
 returns c =
     let step = c .before .before in
@@ -48,12 +42,6 @@ returns c =
     let nothing = rw (c .enum-told .given .1) at (step .with-key .ensures .0) in
     let a = start .args in
     cc (nothing-more (a .places .now) _ (a .count) (omega arith) nothing)
-
-add-k : tie.Need-add-k Inv-loop μ-loop
-add-k c = search needs
-
-loop-less : tie.Need-loop-less Inv-loop μ-loop
-loop-less c = search needs
 
 loop-again : tie.Need-loop-again Inv-loop μ-loop
 unfolding occupantsAfter
@@ -78,10 +66,10 @@ least-choices-spec =
     μ-loop
     loop-holds
     with-key-requires
-    enum-known-next
-    enum-told
+    (λ c. search needs)  -- enum-known-next
+    (λ c. search needs)  -- enum-told
     returns
-    add-k
-    loop-less
+    (λ c. search needs)  -- add-k
+    (λ c. search needs)  -- loop-less
     loop-again
     returns-2)

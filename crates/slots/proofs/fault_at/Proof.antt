@@ -69,69 +69,15 @@ group c = sym (hashed c .group-of .ensures) ∙ c .before .if1 .left
 own : (c : Placed) → (entry (hashed c) .args .j ≡ first (hashed c)) ⊎ (entry (hashed c) .args .j ≡ second (hashed c))
 own c = let h = hashed c in either-of-zero (first h) (second h) (entry h .args .j) (c .if2 .left)
 
-mul-tag : tie.Need-mul-tag
-mul-tag c = search needs
-
-element-copy-out-tag : tie.Need-element-copy-out-tag
-element-copy-out-tag c = search needs
-
-mul-start : tie.Need-mul-start
-mul-start c = search needs
-
-element-copy-out-start : tie.Need-element-copy-out-start
-element-copy-out-start c = search needs
-
-add-size : tie.Need-add-size
-add-size c = search needs
-
-mul-size : tie.Need-mul-size
-mul-size c = search needs
-
-element-copy-out-size : tie.Need-element-copy-out-size
-element-copy-out-size c = search needs
-
-sub-size : tie.Need-sub-size
-sub-size c = search needs
-
-mul-place-of : tie.Need-mul-place-of
-mul-place-of c = search needs
-
-element-copy-out-place-of : tie.Need-element-copy-out-place-of
-element-copy-out-place-of c = search needs
-
-place-of-requires : tie.Need-place-of-requires
-place-of-requires c κs = search needs
-
 add-first : tie.Need-add-first
 add-first c =
     let e = c .before .before .before .before .before in
     record { fits = omega (arith, below e 0, c .place-of .ensures, e .pre .1 .0 .end-legal) }
 
-cast-first : tie.Need-cast-first
-cast-first c = search needs
-
-mul-place-of-2 : tie.Need-mul-place-of-2
-mul-place-of-2 c = search needs
-
-element-copy-out-place-of-2 : tie.Need-element-copy-out-place-of-2
-element-copy-out-place-of-2 c = search needs
-
-place-of-requires-2 : tie.Need-place-of-requires-2
-place-of-requires-2 c κs = search needs
-
 add-second : tie.Need-add-second
 add-second c =
     let e = c .before .before .before .before .before .before .before in
     record { fits = omega (arith, below e 1, c .place-of2 .ensures, e .pre .1 .0 .end-legal) }
-
-cast-second : tie.Need-cast-second
-cast-second c = search needs
-
-group-of-requires : tie.Need-group-of-requires
-group-of-requires c κs = search needs
-
-cast-if1 : tie.Need-cast-if1
-cast-if1 c = search needs
 
 returns : tie.Need-returns
 returns c = slot-misplaced (examined (c .before)) (λ at-group at. c .if1 .taken (c .before .group-of .ensures ∙ at-group))
@@ -151,14 +97,8 @@ returns-2 c =
     let h = c .before .before in
     slot-misplaced (examined h) (λ at-group at. c .if2 .taken (zero-of-either (first h) (second h) (entry h .args .j) at))
 
-add-other : tie.Need-add-other
-add-other c = search needs
-
 sub-other : tie.Need-sub-other
 sub-other c = ⊎-elim (λ at. omega (arith, at)) (λ at. omega (arith, at)) (own c)
-
-mul-if3 : tie.Need-mul-if3
-mul-if3 c = search needs
 
 element-copy-out-if3 : tie.Need-element-copy-out-if3
 element-copy-out-if3 c =
@@ -184,32 +124,32 @@ pub fault-at-spec : {M : Type 1} → statement M
 fault-at-spec =
     tie.close
     (tie.spec
-    mul-tag
-    element-copy-out-tag
-    mul-start
-    element-copy-out-start
-    add-size
-    mul-size
-    element-copy-out-size
-    sub-size
-    mul-place-of
-    element-copy-out-place-of
-    place-of-requires
+    (λ c. search needs)  -- mul-tag
+    (λ c. search needs)  -- element-copy-out-tag
+    (λ c. search needs)  -- mul-start
+    (λ c. search needs)  -- element-copy-out-start
+    (λ c. search needs)  -- add-size
+    (λ c. search needs)  -- mul-size
+    (λ c. search needs)  -- element-copy-out-size
+    (λ c. search needs)  -- sub-size
+    (λ c. search needs)  -- mul-place-of
+    (λ c. search needs)  -- element-copy-out-place-of
+    (λ c κs. search needs)  -- place-of-requires
     add-first
-    cast-first
-    mul-place-of-2
-    element-copy-out-place-of-2
-    place-of-requires-2
+    (λ c. search needs)  -- cast-first
+    (λ c. search needs)  -- mul-place-of-2
+    (λ c. search needs)  -- element-copy-out-place-of-2
+    (λ c κs. search needs)  -- place-of-requires-2
     add-second
-    cast-second
-    group-of-requires
-    cast-if1
+    (λ c. search needs)  -- cast-second
+    (λ c κs. search needs)  -- group-of-requires
+    (λ c. search needs)  -- cast-if1
     returns
     mul-if2
     returns-2
-    add-other
+    (λ c. search needs)  -- add-other
     sub-other
-    mul-if3
+    (λ c. search needs)  -- mul-if3
     element-copy-out-if3
     returns-3
     returns-4

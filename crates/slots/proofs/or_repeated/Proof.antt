@@ -3,15 +3,6 @@ use borrow.Author.Needs.{needs}
 use Rattle.slots.proofs.or_repeated.Statement.{statement}
 use Rattle.slots.proofs.or_repeated.Tie as tie
 
-enum-told : tie.Need-enum-told
-enum-told c = search needs
-
-enum-known-before : tie.Need-enum-known-before
-enum-known-before c = search needs
-
-enum-known-before-2 : tie.Need-enum-known-before-2
-enum-known-before-2 c = search needs
-
 returns : tie.Need-returns
 returns c = rw (c .enum-told .given .1)
 
@@ -24,4 +15,10 @@ returns-3 c = rw (c .before .before3 .given .1)
 pub or-repeated-spec : {M : Type 1} → statement M
 or-repeated-spec =
     tie.close
-    (tie.spec enum-told enum-known-before enum-known-before-2 returns returns-2 returns-3)
+    (tie.spec
+    (λ c. search needs)  -- enum-told
+    (λ c. search needs)  -- enum-known-before
+    (λ c. search needs)  -- enum-known-before-2
+    returns
+    returns-2
+    returns-3)

@@ -92,15 +92,6 @@ loop-holds c =
       walked = walk-start (cellsView (a .starts .now) (a .seeds .now) (a .tags .now) (a .groups));
     }
 
-add-end : tie.Need-add-end Inv-loop2 μ-loop2 Inv-loop μ-loop
-add-end c = search needs
-
-mul-end : tie.Need-mul-end Inv-loop2 μ-loop2 Inv-loop μ-loop
-mul-end c = search needs
-
-element-copy-out-end : tie.Need-element-copy-out-end Inv-loop2 μ-loop2 Inv-loop μ-loop
-element-copy-out-end c = search needs
-
 cast-end : tie.Need-cast-end Inv-loop2 μ-loop2 Inv-loop μ-loop
 cast-end c = record { fits = omega (arith, ends (c .before)) }
 
@@ -118,9 +109,6 @@ fault-at-requires c κs =
     (start .pre) (turn .loop-test .taken) (at .above) (c .loop2-test .taken) in
     (start .pre, (inside, at .walked .placed))
 
-enum-known-k : tie.Need-enum-known-k Inv-loop2 μ-loop2 Inv-loop μ-loop
-enum-known-k c = search needs
-
 returns : tie.Need-returns Inv-loop2 μ-loop2 Inv-loop μ-loop
 returns c =
     let told = c .before in
@@ -131,19 +119,10 @@ returns c =
     walk-found (view (group slot)) (slot .loop2 .j) (group slot .before .loop .fault) (slot .loop2 .inv .1 .walked) all
     (omega (arith, ends (group slot), found .before .loop2-test .taken)) (sym (found .fault-at .ensures) ∙ told .k .given .1)
 
-enum-told : tie.Need-enum-told Inv-loop2 μ-loop2 Inv-loop μ-loop
-enum-told c = search needs
-
-enum-told-2 : tie.Need-enum-told-2 Inv-loop2 μ-loop2 Inv-loop μ-loop
-enum-told-2 c = search needs
-
 add-j : tie.Need-add-j Inv-loop2 μ-loop2 Inv-loop μ-loop
 add-j c =
     let turn = c .before .before .before in
     record { fits = omega (arith, ends (group (turn .before)), turn .loop2-test .taken) }
-
-loop2-less : tie.Need-loop2-less Inv-loop2 μ-loop2 Inv-loop μ-loop
-loop2-less c = search needs
 
 loop2-again : tie.Need-loop2-again Inv-loop2 μ-loop2 Inv-loop μ-loop
 loop2-again c =
@@ -153,9 +132,6 @@ loop2-again c =
     let sound = sym (found .fault-at .ensures) ∙ c .enum-told2 .given .1 in
     let walked = walk-on (view (group slot)) (slot .loop2 .j) fault (slot .loop2 .inv .1 .walked) sound in
     (omega (arith, slot .loop2 .inv .0), next slot fault (found .before .loop2-test .taken) walked)
-
-or-repeated-requires : tie.Need-or-repeated-requires Inv-loop2 μ-loop2 Inv-loop μ-loop
-or-repeated-requires c κs = search needs
 
 add-j-2 : tie.Need-add-j-2 Inv-loop2 μ-loop2 Inv-loop μ-loop
 add-j-2 c =
@@ -177,9 +153,6 @@ loop-again c =
     (λ w. walk-repeated (view (group slot)) (slot .loop2 .j) fault (slot .loop2 .inv .1 .walked) (sym (w .1 .ensures) ∙ w .3 .given .1))
     (c .before .before .loop2-test .came) in
     rw (c .or-repeated .ensures) (next slot (orRepeated fault (slot .loop2 .j)) below repeated)
-
-add-g : tie.Need-add-g Inv-loop2 μ-loop2 Inv-loop μ-loop
-add-g c = search needs
 
 loop-less-2 : tie.Need-loop-less-2 Inv-loop2 μ-loop2 Inv-loop μ-loop
 loop-less-2 c =
@@ -220,24 +193,24 @@ slot-fault-spec =
     Inv-loop
     μ-loop
     loop-holds
-    add-end
-    mul-end
-    element-copy-out-end
+    (λ c. search needs)  -- add-end
+    (λ c. search needs)  -- mul-end
+    (λ c. search needs)  -- element-copy-out-end
     cast-end
     loop2-holds
     fault-at-requires
-    enum-known-k
+    (λ c. search needs)  -- enum-known-k
     returns
-    enum-told
-    enum-told-2
+    (λ c. search needs)  -- enum-told
+    (λ c. search needs)  -- enum-told-2
     add-j
-    loop2-less
+    (λ c. search needs)  -- loop2-less
     loop2-again
-    or-repeated-requires
+    (λ c κs. search needs)  -- or-repeated-requires
     add-j-2
     loop-less
     loop-again
-    add-g
+    (λ c. search needs)  -- add-g
     loop-less-2
     loop-again-2
     returns-2)

@@ -19,15 +19,6 @@ use Rattle.tag_index.specs.Condition3.{BuildCondition3}
 use Rattle.tag_index.proofs.tag_index_build.Statement.{statement}
 use Rattle.tag_index.proofs.tag_index_build.Tie as tie
 
-build-from-text-requires : tie.Need-build-from-text-requires
-build-from-text-requires c κs = search needs
-
-enum-known-size : tie.Need-enum-known-size
-enum-known-size c = search needs
-
-enum-known-refusal : tie.Need-enum-known-refusal
-enum-known-refusal c = search needs
-
 refusal-answer-requires : tie.Need-refusal-answer-requires
 refusal-answer-requires c κs =
     let told = c .before in
@@ -35,9 +26,6 @@ refusal-answer-requires c κs =
     let a = built .before .before .before .before .args in
     let refused = sym (built .build-from-text .ensures .0) ∙ ap buildOutcome (told .refusal .given .1) in
     omega (arith, place-below textLines (from-text-place (a .text .now) _) refused)
-
-same-length : tie.Need-same-length
-same-length c = search needs
 
 -- The answer, the bytes, and Condition 3 of the answer: the outcome that it is taken apart into is the one that building came to.
 promised : (text before after : List ℕ) (r : ℕ) (outcome : Outcome ℕ) → TextPromised text before outcome after → r ≡ answer64 outcome
@@ -55,9 +43,6 @@ returns c =
     let built = told .before .before .before .before in
     promised _ _ _ _ _ (built .build-from-text .ensures) (ap (λ (x : BuildAnswer). answer64 (buildOutcome x)) (sym (told .size .given .1)))
 
-same-length-2 : tie.Need-same-length-2
-same-length-2 c = search needs
-
 returns-2 : tie.Need-returns-2
 returns-2 c =
     let told = c .before .before in
@@ -69,11 +54,11 @@ pub tag-index-build-spec : {M : Type 1} → statement M
 tag-index-build-spec =
     tie.close
     (tie.spec
-    build-from-text-requires
-    enum-known-size
-    enum-known-refusal
+    (λ c κs. search needs)  -- build-from-text-requires
+    (λ c. search needs)  -- enum-known-size
+    (λ c. search needs)  -- enum-known-refusal
     refusal-answer-requires
-    same-length
+    (λ c. search needs)  -- same-length
     returns
-    same-length-2
+    (λ c. search needs)  -- same-length-2
     returns-2)

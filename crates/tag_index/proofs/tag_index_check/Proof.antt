@@ -10,15 +10,6 @@ use Rattle.tag_index.specs.PlaceLaws.{imageLines, checking-place}
 use Rattle.tag_index.proofs.tag_index_check.Statement.{statement}
 use Rattle.tag_index.proofs.tag_index_check.Tie as tie
 
-check-image-requires : tie.Need-check-image-requires
-check-image-requires c κs = search needs
-
-enum-told : tie.Need-enum-told
-enum-told c = search needs
-
-enum-known-refusal : tie.Need-enum-known-refusal
-enum-known-refusal c = search needs
-
 refusal-answer-requires : tie.Need-refusal-answer-requires
 refusal-answer-requires c κs =
     let told = c .before in
@@ -43,4 +34,10 @@ returns-2 c =
 pub tag-index-check-spec : {M : Type 1} → statement M
 tag-index-check-spec =
     tie.close
-    (tie.spec check-image-requires enum-told enum-known-refusal refusal-answer-requires returns returns-2)
+    (tie.spec
+    (λ c κs. search needs)  -- check-image-requires
+    (λ c. search needs)  -- enum-told
+    (λ c. search needs)  -- enum-known-refusal
+    refusal-answer-requires
+    returns
+    returns-2)

@@ -18,21 +18,6 @@ use Rattle.tag_index.proofs.tag_index_lookup.Tie as tie
 abbrev answerOf : Outcome Found → ℕ
 answerOf o = answer64 (answeredBy foundNumber o)
 
-lookup-requires : tie.Need-lookup-requires
-lookup-requires c κs = search needs
-
-enum-known-j : tie.Need-enum-known-j
-enum-known-j c = search needs
-
-cast-result : tie.Need-cast-result
-cast-result c = search needs
-
-enum-told : tie.Need-enum-told
-enum-told c = search needs
-
-enum-known-refusal : tie.Need-enum-known-refusal
-enum-known-refusal c = search needs
-
 refusal-answer-requires : tie.Need-refusal-answer-requires
 refusal-answer-requires c κs =
     let told = c .before in
@@ -70,11 +55,11 @@ pub tag-index-lookup-spec : {M : Type 1} → statement M
 tag-index-lookup-spec =
     tie.close
     (tie.spec
-    lookup-requires
-    enum-known-j
-    cast-result
-    enum-told
-    enum-known-refusal
+    (λ c κs. search needs)  -- lookup-requires
+    (λ c. search needs)  -- enum-known-j
+    (λ c. search needs)  -- cast-result
+    (λ c. search needs)  -- enum-told
+    (λ c. search needs)  -- enum-known-refusal
     refusal-answer-requires
     returns
     returns-2

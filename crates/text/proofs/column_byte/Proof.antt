@@ -5,9 +5,6 @@ use Rattle.columns.specs.Columns.{columnOf}
 use Rattle.text.proofs.column_byte.Statement.{statement}
 use Rattle.text.proofs.column_byte.Tie as tie
 
-add-result : tie.Need-add-result
-add-result c = search needs
-
 returns : tie.Need-returns
 unfolding columnOf
 returns c = rw (eq-eqb (c .before .args .n) 0 (c .if1 .taken))
@@ -17,4 +14,9 @@ unfolding columnOf
 returns-2 c = rw (ne-eqb (c .before .args .n) 0 (c .if1 .left))
 
 pub column-byte-spec : {M : Type 1} → statement M
-column-byte-spec = tie.close (tie.spec add-result returns returns-2)
+column-byte-spec =
+    tie.close
+    (tie.spec
+    (λ c. search needs)  -- add-result
+    returns
+    returns-2)

@@ -8,18 +8,6 @@ use Rattle.text.proofs.leading_column.Tie as tie
 returns : tie.Need-returns
 returns c = let a = c .before .args in column-no-digit (a .v) (a .byte) (c .if1 .taken)
 
-mul-n : tie.Need-mul-n
-mul-n c = search needs
-
-cast-n : tie.Need-cast-n
-cast-n c = search needs
-
-add-n : tie.Need-add-n
-add-n c = search needs
-
-column-byte-requires : tie.Need-column-byte-requires
-column-byte-requires c κs = search needs
-
 returns-2 : tie.Need-returns-2
 returns-2 c =
     let digit = c .before .before in
@@ -34,4 +22,12 @@ returns-3 c =
 
 pub leading-column-spec : {M : Type 1} → statement M
 leading-column-spec =
-    tie.close (tie.spec returns mul-n cast-n add-n column-byte-requires returns-2 returns-3)
+    tie.close
+    (tie.spec
+    returns
+    (λ c. search needs)  -- mul-n
+    (λ c. search needs)  -- cast-n
+    (λ c. search needs)  -- add-n
+    (λ c κs. search needs)  -- column-byte-requires
+    returns-2
+    returns-3)

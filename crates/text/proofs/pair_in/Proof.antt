@@ -8,27 +8,12 @@ use Rattle.text.proofs.Lines.{pair-some, pair-none, both-some, both-non
 use Rattle.text.proofs.pair_in.Statement.{statement}
 use Rattle.text.proofs.pair_in.Tie as tie
 
-two-fours-requires : tie.Need-two-fours-requires
-two-fours-requires c κs = search needs
-
-enum-known-m : tie.Need-enum-known-m
-enum-known-m c = search needs
-
-enum-told : tie.Need-enum-told
-enum-told c = search needs
-
 returns : tie.Need-returns
 returns c =
     let fours = c .before .before in
     let start = fours .before .before in
     let none-read = ap foursMeaning (sym (c .enum-told .given .1)) ∙ fours .two-fours .ensures in
     sym (pair-none (start .args .line .now) (start .pre) (λ m n x y first second h a end. both-none none-read first second))
-
-shared-slice-read-wrapping-sub-u8 : tie.Need-shared-slice-read-wrapping-sub-u8
-shared-slice-read-wrapping-sub-u8 c = search needs
-
-wrapping-sub-u8-requires : tie.Need-wrapping-sub-u8-requires
-wrapping-sub-u8-requires c κs = search needs
 
 returns-2 : tie.Need-returns-2
 returns-2 c =
@@ -37,45 +22,12 @@ returns-2 c =
     sym (pair-none (start .args .line .now) (start .pre)
     (λ m n x y first second h a end. no-digit (c .before .wrapping-sub-u8 .ensures) (omega arith) (c .if1 .taken) h a))
 
-shared-slice-read-end-digit : tie.Need-shared-slice-read-end-digit
-shared-slice-read-end-digit c = search needs
-
-shared-slice-read-end-digit-2 : tie.Need-shared-slice-read-end-digit-2
-shared-slice-read-end-digit-2 c = search needs
-
-end-digit-requires : tie.Need-end-digit-requires
-end-digit-requires c κs = search needs
-
 returns-3 : tie.Need-returns-3
 returns-3 c =
     let fours = c .before .before .before .before .before .before .before .before .before .before in
     let start = fours .before .before in
     sym (pair-none (start .args .line .now) (start .pre)
     (λ m n x y first second h a end. no-ending _ (c .before .end-digit .ensures) (omega arith) (c .if2 .taken) end))
-
-cast-t13 : tie.Need-cast-t13
-cast-t13 c = search needs
-
-mul-t14 : tie.Need-mul-t14
-mul-t14 c = search needs
-
-cast-t15 : tie.Need-cast-t15
-cast-t15 c = search needs
-
-add-t16 : tie.Need-add-t16
-add-t16 c = search needs
-
-cast-t17 : tie.Need-cast-t17
-cast-t17 c = search needs
-
-mul-t18 : tie.Need-mul-t18
-mul-t18 c = search needs
-
-cast-t19 : tie.Need-cast-t19
-cast-t19 c = search needs
-
-add-t20 : tie.Need-add-t20
-add-t20 c = search needs
 
 returns-4 : tie.Need-returns-4
 returns-4 c =
@@ -94,23 +46,23 @@ pub pair-in-spec : {M : Type 1} → statement M
 pair-in-spec =
     tie.close
     (tie.spec
-    two-fours-requires
-    enum-known-m
-    enum-told
+    (λ c κs. search needs)  -- two-fours-requires
+    (λ c. search needs)  -- enum-known-m
+    (λ c. search needs)  -- enum-told
     returns
-    shared-slice-read-wrapping-sub-u8
-    wrapping-sub-u8-requires
+    (λ c. search needs)  -- shared-slice-read-wrapping-sub-u8
+    (λ c κs. search needs)  -- wrapping-sub-u8-requires
     returns-2
-    shared-slice-read-end-digit
-    shared-slice-read-end-digit-2
-    end-digit-requires
+    (λ c. search needs)  -- shared-slice-read-end-digit
+    (λ c. search needs)  -- shared-slice-read-end-digit-2
+    (λ c κs. search needs)  -- end-digit-requires
     returns-3
-    cast-t13
-    mul-t14
-    cast-t15
-    add-t16
-    cast-t17
-    mul-t18
-    cast-t19
-    add-t20
+    (λ c. search needs)  -- cast-t13
+    (λ c. search needs)  -- mul-t14
+    (λ c. search needs)  -- cast-t15
+    (λ c. search needs)  -- add-t16
+    (λ c. search needs)  -- cast-t17
+    (λ c. search needs)  -- mul-t18
+    (λ c. search needs)  -- cast-t19
+    (λ c. search needs)  -- add-t20
     returns-4)

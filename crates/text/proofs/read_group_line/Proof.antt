@@ -7,15 +7,6 @@ use Rattle.text.specs.Line.{groupLine, within}
 use Rattle.text.proofs.read_group_line.Statement.{statement}
 use Rattle.text.proofs.read_group_line.Tie as tie
 
-read-pair-requires : tie.Need-read-pair-requires
-read-pair-requires c κs = search needs
-
-enum-known-start : tie.Need-enum-known-start
-enum-known-start c = search needs
-
-enum-told : tie.Need-enum-told
-enum-told c = search needs
-
 returns : tie.Need-returns
 unfolding groupLine within
 returns c = rw (← c .before .before .read-pair .ensures, c .enum-told .given .1)
@@ -34,4 +25,11 @@ returns-3 c =
 
 pub read-group-line-spec : {M : Type 1} → statement M
 read-group-line-spec =
-    tie.close (tie.spec read-pair-requires enum-known-start enum-told returns returns-2 returns-3)
+    tie.close
+    (tie.spec
+    (λ c κs. search needs)  -- read-pair-requires
+    (λ c. search needs)  -- enum-known-start
+    (λ c. search needs)  -- enum-told
+    returns
+    returns-2
+    returns-3)

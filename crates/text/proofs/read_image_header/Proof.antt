@@ -23,21 +23,9 @@ reads : (c : tie.After-n)
     → let a = c .before .before .before .before .args in pairOf (take lineLength (drop (a .at) (a .bytes .now))) ≡ some (n c, b c)
 reads c = sym (c .before .before .read-pair .ensures) ∙ ap pairMeaning (c .n .given .1)
 
-read-pair-requires : tie.Need-read-pair-requires
-read-pair-requires c κs = search needs
-
-enum-known-n : tie.Need-enum-known-n
-enum-known-n c = search needs
-
-enum-told : tie.Need-enum-told
-enum-told c = search needs
-
 returns : tie.Need-returns
 unfolding imageHeader within
 returns c = rw (← c .before .before .read-pair .ensures, c .enum-told .given .1)
-
-cast-if1 : tie.Need-cast-if1
-cast-if1 c = search needs
 
 returns-2 : tie.Need-returns-2
 unfolding imageHeader within
@@ -65,11 +53,11 @@ pub read-image-header-spec : {M : Type 1} → statement M
 read-image-header-spec =
     tie.close
     (tie.spec
-    read-pair-requires
-    enum-known-n
-    enum-told
+    (λ c κs. search needs)  -- read-pair-requires
+    (λ c. search needs)  -- enum-known-n
+    (λ c. search needs)  -- enum-told
     returns
-    cast-if1
+    (λ c. search needs)  -- cast-if1
     returns-2
     returns-3
     returns-4

@@ -4,12 +4,13 @@ use Rattle.text.specs.Line.{listHeader}
 use Rattle.text.proofs.read_list_header.Statement.{statement}
 use Rattle.text.proofs.read_list_header.Tie as tie
 
-read-pair-requires : tie.Need-read-pair-requires
-read-pair-requires c κs = search needs
-
 returns : tie.Need-returns
 unfolding listHeader
 returns c = c .read-pair .ensures
 
 pub read-list-header-spec : {M : Type 1} → statement M
-read-list-header-spec = tie.close (tie.spec read-pair-requires returns)
+read-list-header-spec =
+    tie.close
+    (tie.spec
+    (λ c κs. search needs)  -- read-pair-requires
+    returns)

@@ -4,12 +4,13 @@ use Rattle.text.specs.Line.{listLine}
 use Rattle.text.proofs.read_list_line.Statement.{statement}
 use Rattle.text.proofs.read_list_line.Tie as tie
 
-read-tag-requires : tie.Need-read-tag-requires
-read-tag-requires c κs = search needs
-
 returns : tie.Need-returns
 unfolding listLine
 returns c = c .read-tag .ensures
 
 pub read-list-line-spec : {M : Type 1} → statement M
-read-list-line-spec = tie.close (tie.spec read-tag-requires returns)
+read-list-line-spec =
+    tie.close
+    (tie.spec
+    (λ c κs. search needs)  -- read-tag-requires
+    returns)

@@ -4,12 +4,13 @@ use Rattle.text.specs.Line.{slotLine}
 use Rattle.text.proofs.read_slot_line.Statement.{statement}
 use Rattle.text.proofs.read_slot_line.Tie as tie
 
-read-tag-requires : tie.Need-read-tag-requires
-read-tag-requires c κs = search needs
-
 returns : tie.Need-returns
 unfolding slotLine
 returns c = c .read-tag .ensures
 
 pub read-slot-line-spec : {M : Type 1} → statement M
-read-slot-line-spec = tie.close (tie.spec read-tag-requires returns)
+read-slot-line-spec =
+    tie.close
+    (tie.spec
+    (λ c κs. search needs)  -- read-tag-requires
+    returns)

@@ -12,27 +12,9 @@ returns : tie.Need-returns
 unfolding within
 returns c = let a = c .before .before .args in rw (tag-short (a .bytes .now) (a .at) (omega arith))
 
-sub-if2 : tie.Need-sub-if2
-sub-if2 c = search needs
-
 returns-2 : tie.Need-returns-2
 unfolding within
 returns-2 c = let a = c .before .before .before .args in rw (tag-short (a .bytes .now) (a .at) (omega arith))
-
-add-end : tie.Need-add-end
-add-end c = search needs
-
-sub-tag-in : tie.Need-sub-tag-in
-sub-tag-in c = search needs
-
-part-tag-in-start : tie.Need-part-tag-in-start
-part-tag-in-start c = search needs
-
-part-tag-in-end : tie.Need-part-tag-in-end
-part-tag-in-end c = search needs
-
-tag-in-requires : tie.Need-tag-in-requires
-tag-in-requires c κs = search needs
 
 returns-3 : tie.Need-returns-3
 returns-3 c =
@@ -44,11 +26,11 @@ read-tag-spec =
     tie.close
     (tie.spec
     returns
-    sub-if2
+    (λ c. search needs)  -- sub-if2
     returns-2
-    add-end
-    sub-tag-in
-    part-tag-in-start
-    part-tag-in-end
-    tag-in-requires
+    (λ c. search needs)  -- add-end
+    (λ c. search needs)  -- sub-tag-in
+    (λ c. search needs)  -- part-tag-in-start
+    (λ c. search needs)  -- part-tag-in-end
+    (λ c κs. search needs)  -- tag-in-requires
     returns-3)

@@ -43,53 +43,11 @@ states c e =
 loop-holds : tie.Need-loop-holds Inv-loop μ-loop
 loop-holds c = examined-start _ _ _ _ (c .before .pre .0 .0)
 
-mul-at : tie.Need-mul-at Inv-loop μ-loop
-mul-at c = search needs
-
-add-after : tie.Need-add-after Inv-loop μ-loop
-add-after c = search needs
-
-sub-tag-in : tie.Need-sub-tag-in Inv-loop μ-loop
-sub-tag-in c = search needs
-
-part-tag-in-start : tie.Need-part-tag-in-start Inv-loop μ-loop
-part-tag-in-start c = search needs
-
-part-tag-in-end : tie.Need-part-tag-in-end Inv-loop μ-loop
-part-tag-in-end c = search needs
-
-tag-in-requires : tie.Need-tag-in-requires Inv-loop μ-loop
-tag-in-requires c κs = search needs
-
-enum-known-t : tie.Need-enum-known-t Inv-loop μ-loop
-enum-known-t c = search needs
-
-enum-told : tie.Need-enum-told Inv-loop μ-loop
-enum-told c = search needs
-
 returns : tie.Need-returns Inv-loop μ-loop
 returns c =
     let line = c .before .before in
     let inv = at line .loop .inv in
     (sym (examined-found inv (line .before .before .loop-test .taken) (states line (c .enum-told .given .1))), inv .cells-are)
-
-sub-if1 : tie.Need-sub-if1 Inv-loop μ-loop
-sub-if1 c = search needs
-
-sub-cells : tie.Need-sub-cells Inv-loop μ-loop
-sub-cells c = search needs
-
-mul-cells : tie.Need-mul-cells Inv-loop μ-loop
-mul-cells c = search needs
-
-element-write-cells : tie.Need-element-write-cells Inv-loop μ-loop
-element-write-cells c = search needs
-
-add-k : tie.Need-add-k Inv-loop μ-loop
-add-k c = search needs
-
-loop-less : tie.Need-loop-less Inv-loop μ-loop
-loop-less c = search needs
 
 loop-again : tie.Need-loop-again Inv-loop μ-loop
 loop-again c =
@@ -112,20 +70,20 @@ read-tag-lines-spec =
     Inv-loop
     μ-loop
     loop-holds
-    mul-at
-    add-after
-    sub-tag-in
-    part-tag-in-start
-    part-tag-in-end
-    tag-in-requires
-    enum-known-t
-    enum-told
+    (λ c. search needs)  -- mul-at
+    (λ c. search needs)  -- add-after
+    (λ c. search needs)  -- sub-tag-in
+    (λ c. search needs)  -- part-tag-in-start
+    (λ c. search needs)  -- part-tag-in-end
+    (λ c κs. search needs)  -- tag-in-requires
+    (λ c. search needs)  -- enum-known-t
+    (λ c. search needs)  -- enum-told
     returns
-    sub-if1
-    sub-cells
-    mul-cells
-    element-write-cells
-    add-k
-    loop-less
+    (λ c. search needs)  -- sub-if1
+    (λ c. search needs)  -- sub-cells
+    (λ c. search needs)  -- mul-cells
+    (λ c. search needs)  -- element-write-cells
+    (λ c. search needs)  -- add-k
+    (λ c. search needs)  -- loop-less
     loop-again
     returns-2)

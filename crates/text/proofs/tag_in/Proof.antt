@@ -64,50 +64,17 @@ reads c =
     tag-some (line read) (whole read) (sym (leads (c .before)))
     (ending-of (line read) (c .before .end-digit .ensures) (omega (arith, bytes 9)) (omega (arith, bytes 10)) (c .if1 .left))
 
-eight-columns-requires : tie.Need-eight-columns-requires
-eight-columns-requires c κs = search needs
-
-enum-known-eight : tie.Need-enum-known-eight
-enum-known-eight c = search needs
-
-enum-told : tie.Need-enum-told
-enum-told c = search needs
-
 returns : tie.Need-returns
 unfolding within
 returns c =
     let read = c .before .before in
     rw (tag-no-columns (line read) (whole read) (nine-none (line read) (whole read) (eight read (c .enum-told .given .1))))
 
-cast-leading-column : tie.Need-cast-leading-column
-cast-leading-column c = search needs
-
-shared-slice-read-leading-column : tie.Need-shared-slice-read-leading-column
-shared-slice-read-leading-column c = search needs
-
-leading-column-requires : tie.Need-leading-column-requires
-leading-column-requires c κs = search needs
-
-enum-known-nine : tie.Need-enum-known-nine
-enum-known-nine c = search needs
-
-enum-told-2 : tie.Need-enum-told-2
-enum-told-2 c = search needs
-
 returns-2 : tie.Need-returns-2
 unfolding within
 returns-2 c =
     let read = eight-read (c .before .before) in
     rw (tag-no-columns (line read) (whole read) (nine (c .before .before) (c .enum-told2 .given .1)))
-
-shared-slice-read-end-digit : tie.Need-shared-slice-read-end-digit
-shared-slice-read-end-digit c = search needs
-
-shared-slice-read-end-digit-2 : tie.Need-shared-slice-read-end-digit-2
-shared-slice-read-end-digit-2 c = search needs
-
-end-digit-requires : tie.Need-end-digit-requires
-end-digit-requires c κs = search needs
 
 returns-3 : tie.Need-returns-3
 unfolding within
@@ -119,18 +86,12 @@ returns-3 c =
 mul-t : tie.Need-mul-t
 mul-t c = omega (arith, below (c .before))
 
-cast-t : tie.Need-cast-t
-cast-t c = search needs
-
 add-t : tie.Need-add-t
 add-t c = omega (arith, below (c .before))
 
 returns-4 : tie.Need-returns-4
 unfolding within
 returns-4 c = rw (reads (c .before), le-ltb (number (c .before)) tagEnd (omega arith))
-
-cast-t16 : tie.Need-cast-t16
-cast-t16 c = search needs
 
 returns-5 : tie.Need-returns-5
 unfolding within
@@ -140,23 +101,23 @@ pub tag-in-spec : {M : Type 1} → statement M
 tag-in-spec =
     tie.close
     (tie.spec
-    eight-columns-requires
-    enum-known-eight
-    enum-told
+    (λ c κs. search needs)  -- eight-columns-requires
+    (λ c. search needs)  -- enum-known-eight
+    (λ c. search needs)  -- enum-told
     returns
-    cast-leading-column
-    shared-slice-read-leading-column
-    leading-column-requires
-    enum-known-nine
-    enum-told-2
+    (λ c. search needs)  -- cast-leading-column
+    (λ c. search needs)  -- shared-slice-read-leading-column
+    (λ c κs. search needs)  -- leading-column-requires
+    (λ c. search needs)  -- enum-known-nine
+    (λ c. search needs)  -- enum-told-2
     returns-2
-    shared-slice-read-end-digit
-    shared-slice-read-end-digit-2
-    end-digit-requires
+    (λ c. search needs)  -- shared-slice-read-end-digit
+    (λ c. search needs)  -- shared-slice-read-end-digit-2
+    (λ c κs. search needs)  -- end-digit-requires
     returns-3
     mul-t
-    cast-t
+    (λ c. search needs)  -- cast-t
     add-t
     returns-4
-    cast-t16
+    (λ c. search needs)  -- cast-t16
     returns-5)

@@ -9,15 +9,6 @@ use Rattle.write.proofs.start_of.Tie as tie
 returns : tie.Need-returns
 returns c = start-first _ (c .if1 .taken)
 
-sub-result : tie.Need-sub-result
-sub-result c = search needs
-
-mul-result : tie.Need-mul-result
-mul-result c = search needs
-
-shared-slice-read-result : tie.Need-shared-slice-read-result
-shared-slice-read-result c = search needs
-
 cast-result : tie.Need-cast-result
 cast-result c =
     let start = c .before .before in
@@ -31,4 +22,10 @@ returns-2 c =
 pub start-of-spec : {M : Type 1} → statement M
 start-of-spec =
     tie.close
-    (tie.spec returns sub-result mul-result shared-slice-read-result cast-result returns-2)
+    (tie.spec
+    returns
+    (λ c. search needs)  -- sub-result
+    (λ c. search needs)  -- mul-result
+    (λ c. search needs)  -- shared-slice-read-result
+    cast-result
+    returns-2)

@@ -11,12 +11,6 @@ Inv-loop ends seeds slots groups count buffer₀ lines k₀ buffer k = LinesWrit
 abbrev μ-loop : tie.MeasureT-loop
 μ-loop ends seeds slots groups count buffer₀ lines k₀ buffer k = 1 + groups + count - k
 
-add-lines : tie.Need-add-lines Inv-loop μ-loop
-add-lines c = search needs
-
-add-lines-2 : tie.Need-add-lines-2 Inv-loop μ-loop
-add-lines-2 c = search needs
-
 loop-holds : tie.Need-loop-holds Inv-loop μ-loop
 loop-holds c = lines-start _ _ _ _ _ (c .before .before .before .before .pre)
 
@@ -25,12 +19,6 @@ write-line-requires c κs =
     let loop = c .before .before in
     let start = loop .before .before .before .before .before in
     (lines-room _ _ _ _ _ (start .pre) (loop .loop .inv), c .before .loop-test .taken)
-
-add-k : tie.Need-add-k Inv-loop μ-loop
-add-k c = search needs
-
-loop-less : tie.Need-loop-less Inv-loop μ-loop
-loop-less c = search needs
 
 loop-again : tie.Need-loop-again Inv-loop μ-loop
 loop-again c =
@@ -56,12 +44,12 @@ write-lines-spec =
     (tie.spec
     Inv-loop
     μ-loop
-    add-lines
-    add-lines-2
+    (λ c. search needs)  -- add-lines
+    (λ c. search needs)  -- add-lines-2
     loop-holds
     write-line-requires
-    add-k
-    loop-less
+    (λ c. search needs)  -- add-k
+    (λ c. search needs)  -- loop-less
     loop-again
     same-length
     returns)

@@ -11,12 +11,6 @@ use borrow.Author.Needs.{needs}
 use Rattle.building.proofs.worked.build_without_groups.Statement.{statement}
 use Rattle.building.proofs.worked.build_without_groups.Tie as tie
 
-build-requires : tie.Need-build-requires
-build-requires c κs = search needs
-
-same-length : tie.Need-same-length
-same-length c = search needs
-
 returns : tie.Need-returns
 unfolding earlierChecks limitCheck ascendingCheck
 returns c =
@@ -26,4 +20,9 @@ returns c =
     (built .build .ensures .0 ∙ outcome, built .build .ensures .1 .0 ∙ buffer-kept (a .tags .now) 0 1 (a .buffer .now) outcome)
 
 pub build-without-groups-spec : {M : Type 1} → statement M
-build-without-groups-spec = tie.close (tie.spec build-requires same-length returns)
+build-without-groups-spec =
+    tie.close
+    (tie.spec
+    (λ c κs. search needs)  -- build-requires
+    (λ c. search needs)  -- same-length
+    returns)

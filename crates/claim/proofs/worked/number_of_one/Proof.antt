@@ -42,24 +42,6 @@ not-unknown e = let z : _≡_ {A = ℕ} 0 1 = cc in omega arith
 not-refused : {reason place : ℕ} → refused reason place ≡ answered (number 1) → ⊥
 not-refused e = let z : _≡_ {A = ℕ} 0 1 = cc in omega arith
 
-slice-aggregate-build-then-look-up : tie.Need-slice-aggregate-build-then-look-up
-slice-aggregate-build-then-look-up c = search needs
-
-slice-aggregate-build-then-look-up-2 : tie.Need-slice-aggregate-build-then-look-up-2
-slice-aggregate-build-then-look-up-2 c = search needs
-
-build-then-look-up-requires : tie.Need-build-then-look-up-requires
-build-then-look-up-requires c κs = search needs
-
-enum-known-j : tie.Need-enum-known-j
-enum-known-j c = search needs
-
-enum-told : tie.Need-enum-told
-enum-told c = search needs
-
-enum-told-2 : tie.Need-enum-told-2
-enum-told-2 c = search needs
-
 returns : tie.Need-returns
 returns c =
     let promised = rw (c .before .j .given .1) at (c .before .before .before .before .build-then-look-up .ensures .0) in
@@ -79,12 +61,12 @@ pub number-of-one-spec : {M : Type 1} → statement M
 number-of-one-spec =
     tie.close
     (tie.spec
-    slice-aggregate-build-then-look-up
-    slice-aggregate-build-then-look-up-2
-    build-then-look-up-requires
-    enum-known-j
-    enum-told
-    enum-told-2
+    (λ c. search needs)  -- slice-aggregate-build-then-look-up
+    (λ c. search needs)  -- slice-aggregate-build-then-look-up-2
+    (λ c κs. search needs)  -- build-then-look-up-requires
+    (λ c. search needs)  -- enum-known-j
+    (λ c. search needs)  -- enum-told
+    (λ c. search needs)  -- enum-told-2
     returns
     returns-2
     returns-3)

@@ -15,15 +15,6 @@ computed : placeOfOneTag 2 1 1 3 ≡ answered 1
 unfolding placeOfOneTag oneTagChecks inOrder met metAt outside placeOf multiplier hashed highPart product
 computed = refl
 
-place-of-one-tag-requires : tie.Need-place-of-one-tag-requires
-place-of-one-tag-requires c κs = search needs
-
-enum-known-place : tie.Need-enum-known-place
-enum-known-place c = search needs
-
-enum-told : tie.Need-enum-told
-enum-told c = search needs
-
 returns : tie.Need-returns
 returns c =
     let promised = rw (c .before .place .given .1) at (c .before .before .before .place-of-one-tag .ensures) in
@@ -36,4 +27,10 @@ returns-2 c =
 
 pub second-place-of-three-spec : {M : Type 1} → statement M
 second-place-of-three-spec =
-    tie.close (tie.spec place-of-one-tag-requires enum-known-place enum-told returns returns-2)
+    tie.close
+    (tie.spec
+    (λ c κs. search needs)  -- place-of-one-tag-requires
+    (λ c. search needs)  -- enum-known-place
+    (λ c. search needs)  -- enum-told
+    returns
+    returns-2)

@@ -6,12 +6,6 @@ use Rattle.insertion.specs.WordWeight.{wordWeight, lighterOf}
 use Rattle.insertion.proofs.weight.lighter.Statement.{statement}
 use Rattle.insertion.proofs.weight.lighter.Tie as tie
 
-weight-of-requires : tie.Need-weight-of-requires
-weight-of-requires c κs = search needs
-
-weight-of-requires-2 : tie.Need-weight-of-requires-2
-weight-of-requires-2 c κs = search needs
-
 returns : tie.Need-returns
 unfolding lighterOf
 returns c =
@@ -25,4 +19,10 @@ returns-2 c =
     rw (le-ltb (wordWeight (a .count) (a .b)) (wordWeight (a .count) (a .a)) (omega arith))
 
 pub lighter-spec : {M : Type 1} → statement M
-lighter-spec = tie.close (tie.spec weight-of-requires weight-of-requires-2 returns returns-2)
+lighter-spec =
+    tie.close
+    (tie.spec
+    (λ c κs. search needs)  -- weight-of-requires
+    (λ c κs. search needs)  -- weight-of-requires-2
+    returns
+    returns-2)

@@ -21,12 +21,6 @@ loop-holds : tie.Need-loop-holds Inv-loop μ-loop
 unfolding total
 loop-holds c = search needs
 
-choice-at-requires : tie.Need-choice-at-requires Inv-loop μ-loop
-choice-at-requires c κs = search needs
-
-key-weight-requires : tie.Need-key-weight-requires Inv-loop μ-loop
-key-weight-requires c κs = search needs
-
 add-sum : tie.Need-add-sum Inv-loop μ-loop
 add-sum c =
     let at = c .before .before .before .before in
@@ -34,12 +28,6 @@ add-sum c =
     record {
       fits = omega (arith, weight-most (choiceIn (at .before .args .word)) (at .loop .i), keyWeight-most (at .loop .i));
     }
-
-add-i : tie.Need-add-i Inv-loop μ-loop
-add-i c = search needs
-
-loop-less : tie.Need-loop-less Inv-loop μ-loop
-loop-less c = search needs
 
 loop-again : tie.Need-loop-again Inv-loop μ-loop
 loop-again c =
@@ -68,10 +56,10 @@ weight-of-spec =
     Inv-loop
     μ-loop
     loop-holds
-    choice-at-requires
-    key-weight-requires
+    (λ c κs. search needs)  -- choice-at-requires
+    (λ c κs. search needs)  -- key-weight-requires
     add-sum
-    add-i
-    loop-less
+    (λ c. search needs)  -- add-i
+    (λ c. search needs)  -- loop-less
     loop-again
     returns)

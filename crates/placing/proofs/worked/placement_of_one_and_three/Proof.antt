@@ -33,18 +33,6 @@ said {seed} {word} e =
     let same : _≡_ {A = Placement} (record { seed = seed; word = word }) (record { seed = 1; word = 2 }) = cc computed in
     (ap (λ (p : Placement). p .seed) same, ap (λ (p : Placement). p .word) same)
 
-slice-aggregate-place-group : tie.Need-slice-aggregate-place-group
-slice-aggregate-place-group c = search needs
-
-place-group-requires : tie.Need-place-group-requires
-place-group-requires c κs = search needs
-
-enum-known-seed : tie.Need-enum-known-seed
-enum-known-seed c = search needs
-
-enum-told : tie.Need-enum-told
-enum-told c = search needs
-
 returns : tie.Need-returns
 returns c =
     let promised = rw (c .enum-told .given .1) at (c .before .before .place-group .ensures) in
@@ -69,10 +57,10 @@ pub placement-of-one-and-three-spec : {M : Type 1} → statement M
 placement-of-one-and-three-spec =
     tie.close
     (tie.spec
-    slice-aggregate-place-group
-    place-group-requires
-    enum-known-seed
-    enum-told
+    (λ c. search needs)  -- slice-aggregate-place-group
+    (λ c κs. search needs)  -- place-group-requires
+    (λ c. search needs)  -- enum-known-seed
+    (λ c. search needs)  -- enum-told
     returns
     mul-result
     add-result

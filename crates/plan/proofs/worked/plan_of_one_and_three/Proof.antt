@@ -45,7 +45,9 @@ plannable = record {
   };
   limit-legal = (omega arith, omega arith);
   few = only (λ g. length (partOf tags ends g) ≤ groupMax) (omega arith);
-  ascending = only (λ g. Ascending (partOf tags ends g)) (λ i within. only (λ i. getD tags i 0 < getD tags (suc i) 0) (omega arith) i (omega arith));
+  ascending =
+      only (λ g. Ascending (partOf tags ends g))
+      (λ i within. only (λ i. getD tags i 0 < getD tags (suc i) 0) (omega arith) i (omega arith));
 }
 
 -- `unfolding computed` opens every definition that these compute through.
@@ -83,23 +85,11 @@ promised : (before : List ℕ) {o : Option ℕ} {seeds words : List ℕ}
 promised before (told, (seeds, words)) =
     (first-cell (partSeed tags ends 2) before told seeds ∙ seed-is, first-cell (partWord tags ends 2) before told words ∙ word-is)
 
-slice-aggregate-plan-groups : tie.Need-slice-aggregate-plan-groups
-slice-aggregate-plan-groups c = search needs
-
-slice-aggregate-plan-groups-2 : tie.Need-slice-aggregate-plan-groups-2
-slice-aggregate-plan-groups-2 c = search needs
-
 plan-groups-requires : tie.Need-plan-groups-requires
 plan-groups-requires c κs = (plannable, omega arith, refl, refl)
 
-array-read-result : tie.Need-array-read-result
-array-read-result c = search needs
-
 mul-result : tie.Need-mul-result
 mul-result c = omega (arith, promised (replicate groupsMax 0) (c .plan-groups .ensures))
-
-array-read-result-2 : tie.Need-array-read-result-2
-array-read-result-2 c = search needs
 
 add-result : tie.Need-add-result
 add-result c = omega (arith, promised (replicate groupsMax 0) (c .plan-groups .ensures))
@@ -111,11 +101,11 @@ pub plan-of-one-and-three-spec : {M : Type 1} → statement M
 plan-of-one-and-three-spec =
     tie.close
     (tie.spec
-    slice-aggregate-plan-groups
-    slice-aggregate-plan-groups-2
+    (λ c. search needs)  -- slice-aggregate-plan-groups
+    (λ c. search needs)  -- slice-aggregate-plan-groups-2
     plan-groups-requires
-    array-read-result
+    (λ c. search needs)  -- array-read-result
     mul-result
-    array-read-result-2
+    (λ c. search needs)  -- array-read-result-2
     add-result
     returns)

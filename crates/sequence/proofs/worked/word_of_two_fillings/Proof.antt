@@ -43,29 +43,8 @@ same e = cc
 never : {x : ℕ} → none ≡ some x → ⊥
 never e = let z : _≡_ {A = ℕ} 0 1 = cc in omega arith
 
-array-write-places : tie.Need-array-write-places
-array-write-places c = search needs
-
-add-places : tie.Need-add-places
-add-places c = search needs
-
-mul-places : tie.Need-mul-places
-mul-places c = search needs
-
-array-write-places-2 : tie.Need-array-write-places-2
-array-write-places-2 c = search needs
-
-slice-aggregate-least-choices : tie.Need-slice-aggregate-least-choices
-slice-aggregate-least-choices c = search needs
-
 least-choices-requires : tie.Need-least-choices-requires
 least-choices-requires c κs = (omega arith, candidates)
-
-enum-known-word : tie.Need-enum-known-word
-enum-known-word c = search needs
-
-enum-told : tie.Need-enum-told
-enum-told c = search needs
 
 returns : tie.Need-returns
 returns c =
@@ -81,13 +60,13 @@ pub word-of-two-fillings-spec : {M : Type 1} → statement M
 word-of-two-fillings-spec =
     tie.close
     (tie.spec
-    array-write-places
-    add-places
-    mul-places
-    array-write-places-2
-    slice-aggregate-least-choices
+    (λ c. search needs)  -- array-write-places
+    (λ c. search needs)  -- add-places
+    (λ c. search needs)  -- mul-places
+    (λ c. search needs)  -- array-write-places-2
+    (λ c. search needs)  -- slice-aggregate-least-choices
     least-choices-requires
-    enum-known-word
-    enum-told
+    (λ c. search needs)  -- enum-known-word
+    (λ c. search needs)  -- enum-told
     returns
     returns-2)
