@@ -83,7 +83,7 @@ fn build_ordered(
     ensures bytes { λ _. ⌜ now (buffer .exit) ≡ bufferAfter (now (tags .entry)) groups limit (now (buffer .entry)) ⌝ }
 {
     let mut seeds = [0; 512];
-    let mut words = [0; 512];
+    let mut words = [0; refusal::GROUP_CELLS];
     if let First::At(g) = plan::plan_groups(
         ordered,
         ends,
