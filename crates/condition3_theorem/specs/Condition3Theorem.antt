@@ -21,8 +21,8 @@ use Rattle.text.specs.Line.{lineLength}
 use Rattle.lists.specs.Occurs.{occurs}
 use Rattle.group.specs.Group.{leastSeed, taken}
 use Rattle.group.specs.GroupLaws.{LeastSeed, leastSeed-none}
-use Rattle.group.specs.Ascending.{limitCheck, ascendingCheck}
 use Rattle.group.specs.AscendingLaws.{ascending-of-check, check-of-ascending}
+use Rattle.group.specs.UnwiredLaws.{wired-of-check, check-of-wired}
 use Rattle.image.specs.Sheet.{Sheet, imageLength}
 use Rattle.image.specs.SheetLaws.{group-at}
 use Rattle.image.specs.View.{viewOf}
@@ -85,12 +85,13 @@ module _ (tags : List ℕ) (groups limit : ℕ) where
 
     -- The checks before 7 pass exactly where the conditions on the inputs hold: one line for each, in their order.
     pass-of-earlier : EarlierChecks tags groups limit room → Pass earlier
-    unfolding earlierChecks limitCheck imageLength
+    unfolding earlierChecks imageLength
     pass-of-earlier h =
         met-false (outside-not 1 groupsMax groups (h .groups-legal .0) (h .groups-legal .1))
         then met-false (outside-not 1 limitMax limit (h .limit-legal .0) (h .limit-legal .1))
         then met-false (le-ltb tagsMax (length tags) (h .count-legal))
         then check-of-ascending tags (h .ascending)
+        then check-of-wired tags (h .wired)
         then met-false (le-ltb room (lineLength * (1 + groups + length tags)) (h .fits))
         then first-out (tooLarge groups tags) groups small
         then tt
@@ -99,12 +100,13 @@ module _ (tags : List ℕ) (groups limit : ℕ) where
         small g lt = le-ltb groupMax (length (members groups g tags)) (h .groups-small g lt)
 
     pub earlier-of-pass : Pass earlier → EarlierChecks tags groups limit room
-    unfolding earlierChecks limitCheck ascendingCheck imageLength
+    unfolding earlierChecks imageLength
     earlier-of-pass h = record {
       groups-legal = inside 1 groupsMax groups (false-of-met _ (passed earlier h 8));
       limit-legal = inside 1 limitMax limit (false-of-met _ (passed earlier h 4));
       count-legal = ltb-false tagsMax (length tags) (false-of-met _ (passed earlier h 5));
       ascending = ascending-of-check tags (passed earlier h 6);
+      wired = wired-of-check tags (passed earlier h 17);
       fits = ltb-false room (lineLength * (1 + groups + length tags)) (false-of-met _ (passed earlier h 9));
       groups-small = λ g lt.
           let small = first-none (tooLarge groups tags) groups (passed earlier h 10) g lt in
@@ -127,7 +129,7 @@ module _ (tags : List ℕ) (groups limit : ℕ) where
 
     -- A refusal 7 comes from the last check, since no earlier one has its number.
     first-of-seven : (g : ℕ) → buildingOf tags groups limit room ≡ refused 7 g → first (seedless groups tags limit) groups ≡ some g
-    unfolding buildingOf buildingChecks earlierChecks limitCheck ascendingCheck
+    unfolding buildingOf buildingChecks earlierChecks
     first-of-seven g e =
         let met = inOrder-refused (buildingChecks tags groups limit room) (imageLength groups (length tags)) e in
         go (met-behind earlier ((7, first (seedless groups tags limit) groups) ∷ []) 7 g refl met .1)

@@ -13,15 +13,15 @@ use Rattle.lists.specs.Occurs.{occurs}
 use Rattle.filling.specs.Filling.{placeBy}
 use Rattle.filling.specs.Least.{beginning, leastFrom, least, feasible}
 use Rattle.group.specs.Group.{bothPlaces, candidates, leastSeed}
-use Rattle.group.specs.Ascending.{limitCheck, notAbove, ascendingCheck}
-use Rattle.group.specs.Unwired.{startsUnwired, unwiredCheck}
+use Rattle.group.specs.Ascending.{notAbove}
+use Rattle.group.specs.Unwired.{startsUnwired}
 use Rattle.group.specs.Placing.{placingChecks, placingOf}
 
 -- `unfolding computed` opens every definition that these compute through.
 computed : ℕ
 unfolding orElse outside first metAt isSome met inOrder product highPart hashed multiplier placeOf occurs placeBy
-    beginning leastFrom least feasible bothPlaces candidates leastSeed limitCheck notAbove ascendingCheck startsUnwired
-    unwiredCheck placingChecks placingOf
+    beginning leastFrom least feasible bothPlaces candidates leastSeed notAbove startsUnwired
+    placingChecks placingOf
 computed = 0
 
 -- One tag, once more than a group holds tags, which is too many tags, not ascending, and has no seed.

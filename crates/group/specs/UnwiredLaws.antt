@@ -12,15 +12,11 @@ use Rattle.refusal.specs.Limits.{unwired}
 use Rattle.refusal.specs.Outcome.{answered}
 use Rattle.refusal.specs.ChecksLaws.{met-false, false-of-met, passed, inOrder-answered}
 use Rattle.lists.specs.Occurs.{occurs}
-use Rattle.lists.specs.OccursLaws.{IndexOf, occurs-getD}
-use Rattle.group.specs.Ascending.{limitCheck, ascendingCheck, Ascending}
+use Rattle.lists.specs.OccursLaws.{occurs-not, getD-occurs, occurs-getD}
+use Rattle.group.specs.Ascending.{Ascending}
 use Rattle.group.specs.AscendingLaws.{ascending-of-check, ascending-above}
-use Rattle.group.specs.Unwired.{startsUnwired, unwiredCheck}
+use Rattle.group.specs.Unwired.{startsUnwired, unwiredCheck, FirstWired}
 use Rattle.group.specs.Placing.{Placement, placingChecks, placementOf, placingOf}
-
--- "the first tag is not 0", where there is one.
-abbrev pub FirstWired : List ℕ → Type 0
-FirstWired tags = 0 < length tags → 0 < getD tags 0 0
 
 -- Whether a list begins with tag 0, by its length and its first tag.
 pub starts-none : (tags : List ℕ) → length tags ≡ 0 → startsUnwired tags ≡ false
@@ -35,26 +31,33 @@ starts-with (t ∷ tags) some = refl
 
 -- Check 17 is not met exactly where the first tag is not 0.
 pub wired-of-check : (tags : List ℕ) → unwiredCheck tags .1 ≡ none → FirstWired tags
-unfolding unwiredCheck startsUnwired
+unfolding startsUnwired
 wired-of-check [] e some = absurd (omega arith)
 wired-of-check (t ∷ tags) e some = let other : t ≡ 0 → ⊥ = eqb-false t unwired (false-of-met _ e) in omega (arith, other)
 
 pub check-of-wired : (tags : List ℕ) → FirstWired tags → unwiredCheck tags .1 ≡ none
-unfolding unwiredCheck startsUnwired
+unfolding startsUnwired
 check-of-wired [] wired = met-false refl
 check-of-wired (t ∷ tags) wired = met-false (ne-eqb t unwired (λ e. omega (arith, wired (omega arith))))
 
 -- A strictly ascending list whose first tag is not 0 has it nowhere.
 pub wired-absent : (tags : List ℕ) → Ascending tags → FirstWired tags → occurs unwired tags ≡ false
-wired-absent tags up wired = not-eq-not .0 (λ there. at (occurs-getD tags unwired there))
+wired-absent tags up wired =
+    not-eq-not .0 (λ there. let found = occurs-getD tags unwired there in at (found .index) (found .inside) (found .value))
   where
-    at : IndexOf unwired tags → ⊥
-    at record { index = zero; inside = inside; value = value } = omega (arith, wired inside)
-    at record { index = suc i; inside = inside; value = value } = omega (arith, ascending-above tags up 0 (suc i) (omega arith) inside)
+    at : (i : ℕ) → i < length tags → getD tags i 0 ≡ unwired → ⊥
+    at zero inside is = omega (arith, wired inside)
+    at (suc i) inside is = omega (arith, ascending-above tags up 0 (suc i) (omega arith) inside)
+
+-- And a list without tag 0 does not begin with it.
+pub absent-wired : (tags : List ℕ) → occurs unwired tags ≡ false → FirstWired tags
+absent-wired tags absent some =
+    let first : getD tags 0 0 ≡ unwired → ⊥ = λ e. occurs-not unwired tags (rw e at (getD-occurs tags 0 some)) absent in
+    omega (arith, first)
 
 -- "A list with tag 0 must not get a place for it": placing answers for no list that has it.
 pub placing-wired : (tags : List ℕ) (limit : ℕ) {p : Placement} → placingOf tags limit ≡ answered p → occurs unwired tags ≡ false
-unfolding placingOf placingChecks limitCheck ascendingCheck unwiredCheck
+unfolding placingOf placingChecks
 placing-wired tags limit e =
     let checks = placingChecks tags limit in
     let (passes, told) = inOrder-answered checks (answered (placementOf tags limit)) e in

@@ -12,7 +12,6 @@ use Rattle.refusal.specs.Outcome.{Outcome, answered, refused, answeredBy, follo
 use Rattle.lists.specs.First.{metAt, isSome}
 use Rattle.refusal.specs.ChecksLaws.{inOrder-answered}
 use Rattle.refusal.specs.PlaceLaws.{PlaceBelow, Numbered, numbered-checks, numbered-followed, numbered-cond}
-use Rattle.group.specs.Ascending.{limitCheck, ascendingCheck}
 use Rattle.list.specs.Reading.{Listed, readingChecks, readingOf}
 use Rattle.hash.specs.Formula.{groupOf}
 use Rattle.image.specs.View.{View, viewOf, groupsIn, startIn, endIn, slotLineIn, slotIn}
@@ -53,7 +52,7 @@ fits-of bound (refused reason place) le low numbered below = (numbered, omega ar
 
 -- Every refusal of building from a text has a number, and a length is at most 50,699.
 build-numbered : (text : List ℕ) (room : ℕ) → Numbered (buildingFromText text room)
-unfolding buildingFromText listFromText readingOf readingChecks buildingOf buildingChecks earlierChecks limitCheck ascendingCheck
+unfolding buildingFromText listFromText readingOf readingChecks buildingOf buildingChecks earlierChecks
 build-numbered text room =
     numbered-followed (listFromText text) _
     (numbered-checks _ (readingOf text tagsMax) refl (numbered-checks (readingChecks text tagsMax) _ refl tt))

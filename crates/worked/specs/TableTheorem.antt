@@ -25,7 +25,8 @@ use Rattle.filling.specs.Word.{choiceNumber, wordOf}
 use Rattle.group.specs.Group.{bothPlaces, candidates, groupUnder, leastSeed, taken}
 use Rattle.filling.specs.FillingLaws.{unreached}
 use Rattle.group.specs.GroupLaws.{candidates-length, each-candidate, leastSeed-out, leastSeed-empty}
-use Rattle.group.specs.Ascending.{limitCheck, notAbove, ascendingCheck}
+use Rattle.group.specs.Ascending.{notAbove}
+use Rattle.group.specs.Unwired.{startsUnwired}
 use Rattle.group.specs.Placing.{placingChecks, placementOf, placingOf}
 use Rattle.lists.specs.UpTo.{upTo}
 use Rattle.image.specs.Sheet.{linesOf, bytesOf, imageLength}
@@ -45,7 +46,7 @@ holds-only limit claims h l from upto = let e : limit ≡ l = omega arith in sub
 computed : ℕ
 unfolding AllHold Holds metAt isSome met inOrder orElse product highPart hashed groupOf multiplier placeOf
     oneTagChecks placeOfOneTag occurs distinct placeBy chosen beginning leastFrom least feasible choiceNumber wordOf
-    bothPlaces candidates taken limitCheck notAbove ascendingCheck placingChecks placementOf placingOf imageLength
+    bothPlaces candidates taken notAbove startsUnwired placingChecks placementOf placingOf imageLength
     select members startOf choiceOf placeIn numberOf tagNumbered leading figure pairLine flatten upTo linesOf bytesOf
     sheetOf seedTaken choicesTaken imageOf buildingChecks earlierChecks buildingOf written bufferAfter
 computed = 0

@@ -18,7 +18,8 @@ use Rattle.lists.specs.Occurs.{occurs, distinct}
 use Rattle.filling.specs.Filling.{placeBy}
 use Rattle.filling.specs.Least.{beginning, leastFrom, least, feasible}
 use Rattle.group.specs.Group.{bothPlaces, candidates, leastSeed, taken}
-use Rattle.group.specs.Ascending.{limitCheck, notAbove, ascendingCheck}
+use Rattle.group.specs.Ascending.{notAbove}
+use Rattle.group.specs.Unwired.{startsUnwired}
 use Rattle.list.specs.Reading.{malformed, lineCount, tagCount, tagsFrom, listedIn, readingChecks, readingOf}
 use Rattle.lists.specs.UpTo.{upTo}
 use Rattle.image.specs.Sheet.{linesOf, bytesOf, imageLength, longestImage}
@@ -37,7 +38,7 @@ computed : ℕ
 unfolding flatten orElse outside answeredBy followedBy first metAt isSome met inOrder product highPart hashed
     groupOf multiplier placeOf leading figure valueFrom same field lineAt pairLine tagLine ended bothFields pairOf tagOf
     within imageHeader groupLine slotLine listHeader listLine occurs distinct placeBy beginning leastFrom least feasible
-    bothPlaces candidates leastSeed taken limitCheck notAbove ascendingCheck malformed lineCount tagCount tagsFrom
+    bothPlaces candidates leastSeed taken notAbove startsUnwired malformed lineCount tagCount tagsFrom
     listedIn readingChecks readingOf upTo linesOf bytesOf imageLength longestImage viewOf countIn groupsIn startIn seedIn slotLineIn
     slotIn endIn faulty candidateIn openingChecks malformedIn groupOfSlot misplaced repeated numberChecks checkingChecks checkingOf
     groupChecks lookupChecks atSlot lookupInGroup lookupOf select members startOf choiceOf placeIn numberOf tagNumbered
