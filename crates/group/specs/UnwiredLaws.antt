@@ -1,13 +1,13 @@
 -- When a list passes check 17, and that tag 0 then stands nowhere in it. Assumes nothing.
 use mathlib.Core.Path.{_≡_, refl}
-use mathlib.Core.Bool.{Bool, true, false, not-eq-not}
+use mathlib.Core.Bool.{false, not-eq-not}
 use mathlib.Core.List.{List, [], _∷_}
 use mathlib.Core.Option.{none}
 use Prim.Native.Nat.{ℕ, zero, suc, _<_}
 use native.Mathlib.Omega.{arith}
 use lib.Dec.{eqb}
 use lib.ListN.{length, getD}
-use borrow.Author.Tests.{eq-eqb, ne-eqb, eqb-false}
+use borrow.Author.Tests.{ne-eqb, eqb-false}
 use Rattle.refusal.specs.Limits.{unwired}
 use Rattle.refusal.specs.Outcome.{answered}
 use Rattle.refusal.specs.ChecksLaws.{met-false, false-of-met, passed, inOrder-answered}
