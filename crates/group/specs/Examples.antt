@@ -41,8 +41,8 @@ six-before-seventeen : placingOf (0 ∷ 0 ∷ []) 1 ≡ refused 6 1
 unfolding computed
 six-before-seventeen = refl
 
--- The tags 0 and 3: no seed below 1 serves them either.
-seventeen-before-seven : placingOf (0 ∷ 3 ∷ []) 1 ≡ refused 17 0
+-- The tags of worked value 6: no seed serves them either.
+seventeen-before-seven : placingOf (0 ∷ 1073741824 ∷ 3221225472 ∷ []) 1 ≡ refused 17 0
 unfolding computed
 seventeen-before-seven = refl
 
