@@ -45,16 +45,20 @@ impl Random {
         low + self.below(high - low + 1)
     }
 
-    /// So many different tags, ascending.
+    /// So many different tags, ascending, none of them 0.
     pub fn tags(&mut self, count: usize) -> Vec<u32> {
         self.multiples(count, 1)
     }
 
-    /// So many different multiples of `step`, ascending; there must be so many.
+    /// So many different multiples of `step`, ascending, none of them 0, which is nobody's tag; there
+    /// must be so many.
     pub fn multiples(&mut self, count: usize, step: u32) -> Vec<u32> {
         let mut tags = BTreeSet::new();
         while tags.len() < count {
-            tags.insert(self.tag() / step * step);
+            let tag = self.tag() / step * step;
+            if tag != 0 {
+                tags.insert(tag);
+            }
         }
         tags.into_iter().collect()
     }
