@@ -181,3 +181,20 @@ pub fn passing(tags: &[u32]) -> usize {
     };
     (0..LIMIT).filter(touches_all).count()
 }
+
+#[cfg(test)]
+mod tests {
+    use super::{passing, unserved, LIMIT};
+    use crate::plain::least_seed;
+
+    #[test]
+    fn no_seed_serves_these_groups_and_all_seeds_are_dropped_early_or_none() {
+        for case in unserved() {
+            assert!(!case.tags.contains(&0), "{}", case.title);
+            assert_eq!(least_seed(&case.tags, LIMIT), None, "{}", case.title);
+            let dropped = case.name.ends_with("dropped");
+            let passing_due = if dropped { 0 } else { LIMIT as usize };
+            assert_eq!(passing(&case.tags), passing_due, "{}", case.title);
+        }
+    }
+}
