@@ -322,7 +322,7 @@ impl Tally {
              the C boundary; --stored has them"
         );
         if !complete {
-            println!("compare: some answer never came, or a refusal at one place only");
+            println!("compare: some answer never came, or a refusal at one place only or at one that it does not name");
         }
         complete
     }

@@ -2,9 +2,9 @@
 //! with what document 02, §1, changes in it: nobody has tag 0.
 //!
 //! It is written from the papers alone and shares no code with the proved crates, so that a
-//! program can run both and compare. Where the papers leave the method open, the model
-//! takes another one than the proved crates: connected parts decide whether a seed serves a group, and matching
-//! finds the least choice sequence. A module is one concept, in the paper's order.
+//! program can run both and compare. Where the papers leave the method open, the model takes
+//! another one than the proved crates: connected parts decide whether a seed serves a group, and
+//! matching finds the least choice sequence. A module is one concept, in the paper's order.
 
 #![forbid(unsafe_code)]
 

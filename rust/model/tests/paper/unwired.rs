@@ -11,7 +11,8 @@ use model::{build, check, image_of, list_text, lookup, place_group, place_of_one
 use model::{print_index, read_list, Found};
 use random::Random;
 
-const SLOT_0: &[u8; 11] = b"         0\n";
+/// A slot line that holds tag 0.
+const HOLDS_0: &[u8; 11] = b"         0\n";
 
 /// Tag 0 and so many other tags of group 0, in `groups` groups: ascending.
 fn with_0(groups: u32, others: usize) -> Vec<u32> {
@@ -129,7 +130,7 @@ fn checking_names_the_lowest_slot_that_holds_0() {
         // Bit j of `slots` says that slot j holds 0.
         let mut image = WHOLE_CASE_IMAGE.to_vec();
         for slot in (0..3).filter(|slot| slots >> slot & 1 == 1) {
-            image = with_line(&image, 3 + slot, SLOT_0);
+            image = with_line(&image, 3 + slot, HOLDS_0);
         }
         let lowest = u64::from((slots as u32).trailing_zeros());
         assert_eq!(check(&image), Err(refusal(17, lowest)));
@@ -139,7 +140,7 @@ fn checking_names_the_lowest_slot_that_holds_0() {
     let tags = random.tags(300);
     let image = image_of(&tags, 64, 65_536).unwrap();
     for slot in 0..300 {
-        let changed = with_line(&image, 65 + slot, SLOT_0);
+        let changed = with_line(&image, 65 + slot, HOLDS_0);
         assert_eq!(check(&changed), Err(refusal(17, slot as u64)));
     }
 }
@@ -159,7 +160,7 @@ fn a_tag_0_that_stands_at_its_place_in_its_group_is_refused_all_the_same() {
 #[test]
 fn checking_comes_to_11_and_12_before_17_before_13_14_and_15() {
     // The length; line 0; a group line, a slot line below and one above the slot that holds 0.
-    let image = with_line(WHOLE_CASE_IMAGE, 4, SLOT_0);
+    let image = with_line(WHOLE_CASE_IMAGE, 4, HOLDS_0);
     assert_eq!(check(&image), Err(refusal(17, 1)));
     assert_eq!(check(&image[..65]), Err(refusal(11, 0)));
     assert_eq!(
@@ -209,7 +210,7 @@ fn checking_comes_to_11_and_12_before_17_before_13_14_and_15() {
     .concat();
     let repeated = [&lines[..], &line_of_tag(one)].concat();
     assert_eq!(check(&repeated), Err(refusal(15, 1)));
-    assert_eq!(check(&[&lines[..], SLOT_0].concat()), Err(refusal(17, 2)));
+    assert_eq!(check(&[&lines[..], HOLDS_0].concat()), Err(refusal(17, 2)));
 }
 
 #[test]
@@ -251,7 +252,7 @@ fn looking_up_0_answers_unknown_though_its_group_is_malformed_or_faulty_or_a_slo
         assert_eq!(lookup(image, 2), Err(refused));
     }
     for line in 3..6 {
-        let holds_0 = with_line(WHOLE_CASE_IMAGE, line, SLOT_0);
+        let holds_0 = with_line(WHOLE_CASE_IMAGE, line, HOLDS_0);
         assert_eq!(lookup(&holds_0, 0), Ok(Found::Unknown));
     }
 }
