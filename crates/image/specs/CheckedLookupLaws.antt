@@ -281,15 +281,16 @@ sound-wired v sound j h =
 pub checked-wired : (image : List ℕ) {a : ℕ} → checkingOf image ≡ answered a → (j : ℕ) → SlotHolds image j unwired → ⊥
 checked-wired image accepted = sound-wired (viewOf image) ((accepted-sound image accepted) .0)
 
+-- Looking up 0 in a sound image answers unknown.
+pub sound-unwired : (image : List ℕ) → Sound (viewOf image) → lookupOf image unwired ≡ answered unknown
+sound-unwired image sound = lookup-unwired image ∙ inOrder-pass (openingChecks (viewOf image)) _ (sound .opens)
+
 -- Where the lookup of a tag, 0 or another, ends in a sound image.
 pub image-ends : (image : List ℕ) → Sound (viewOf image) → 0 < groupsIn (viewOf image) → (t : ℕ)
     → Looked (viewOf image) t (lookupOf image t)
 image-ends image sound many t = by-wired t
-    (λ zero. rw zero (nowhere (sound-wired v sound) (lookup-unwired image ∙ inOrder-pass (openingChecks v) _ (sound .opens))))
-    (λ wired. rw (lookup-wired image t wired) (lookup-ends v sound many t))
-  where
-    v : View
-    v = viewOf image
+    (λ zero. rw zero (nowhere (sound-wired (viewOf image) sound) (sound-unwired image sound)))
+    (λ wired. rw (lookup-wired image t wired) (lookup-ends (viewOf image) sound many t))
 
 -- "Looking up a tag in a checked image gives the number that the image states for it, or 'unknown' if the image has no such tag."
 pub record LooksUp (image : List ℕ) (t : ℕ) : Type 0 where
