@@ -1,4 +1,6 @@
 // Checks 6 and 17 of placing and building: is the list strictly ascending, and is its first tag that of a tank?
+mod worked;
+
 use refusal::First;
 ghost use mathlib.Core.Path.{_≡_};
 ghost use Rattle.group.specs.Ascending.{ascendingCheck};
