@@ -22,7 +22,7 @@
 extern "C" {
 #endif
 
-/* The ranges of document 01. */
+/* The ranges of document 01. Tag 0 is nobody's: it is reserved for an unwired point. */
 #define TAG_INDEX_LARGEST_LIST 4096u   /* tags of a list, N */
 #define TAG_INDEX_LARGEST_GROUPS 512u  /* group count, B */
 #define TAG_INDEX_LARGEST_GROUP 24u    /* tags of a group */
@@ -52,25 +52,28 @@ enum tag_index_reason {
     TAG_INDEX_FAULTY_GROUP = 13,             /* group: its start or its end does not fit */
     TAG_INDEX_WRONG_SLOT = 14,               /* slot: its tag does not belong there */
     TAG_INDEX_REPEATED_TAG = 15,             /* slot: its tag stands in a lower slot too */
-    TAG_INDEX_MALFORMED_LIST = 16            /* line of the list text */
+    TAG_INDEX_MALFORMED_LIST = 16,           /* line of the list text */
+    TAG_INDEX_UNWIRED_TAG = 17               /* tag 0, reserved for an unwired point; from checking
+                                              * the slot that holds it */
 };
 
 /* Builds the image of a list text at the beginning of the buffer `image`.
  *
- * Answers the image's length, 22 to 50,699, or refusal 16, 5, 8, 4, 6, 9, 10 or 7. The bytes behind
- * the image stay as they were; a refusal leaves all of them as they were. */
+ * Answers the image's length, 22 to 50,699, or refusal 16, 5, 8, 4, 6, 17, 9, 10 or 7. The bytes
+ * behind the image stay as they were; a refusal leaves all of them as they were. */
 uint64_t tag_index_build(const uint8_t *text, size_t text_length, uint8_t *image,
                          size_t image_length);
 
 /* Checks an image of any origin: its length, every line, every group and every slot.
  *
- * Answers 0 if it is accepted, or refusal 11, 12, 13, 14 or 15. */
+ * Answers 0 if it is accepted, or refusal 11, 12, 17, 13, 14 or 15. */
 uint64_t tag_index_check(const uint8_t *image, size_t image_length);
 
 /* Looks up a tag in an image, checked or not.
  *
  * Answers the tag's number, 0 to 4,095; TAG_INDEX_UNKNOWN if the image does not have it; or refusal
- * 11, 12 or 13 if one of the few lines that it reads is at fault. */
+ * 11, 12 or 13 if one of the few lines that it reads is at fault. No image has tag 0, and for it
+ * line 0 and the length alone are examined. */
 uint64_t tag_index_lookup(const uint8_t *image, size_t image_length, uint32_t tag);
 
 /* Whether an answer is a refusal. */

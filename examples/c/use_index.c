@@ -60,16 +60,23 @@ int main(void) {
     }
     look_up(length, UINT32_MAX);
 
-    /* A buffer one byte short, a list that is not ascending, a text that is cut: refused, and the
-     * image that stands in the buffer stays. */
+    /* A buffer one byte short, a list that is not ascending, a text that is cut, tag 0, which is
+     * reserved for an unwired point: refused, and the image that stands in the buffer stays. */
     build(list, length - 1);
     build("    1    9\n         5\n         5\n", sizeof image);
     build("    1    9\n         5", sizeof image);
+    build("    1    9\n         0\n         5\n", sizeof image);
     check(length);
 
-    /* A damaged image: slot 0, which is line 3, no longer holds a figure. */
+    /* A damaged image: slot 2, which is line 5, holds tag 0. */
+    image[TAG_INDEX_LINE * 5 + 9] = '0';
+    check(length);
+    image[TAG_INDEX_LINE * 5 + 9] = '3';
+
+    /* Another: slot 0, which is line 3, no longer holds a figure. */
     image[TAG_INDEX_LINE * 3 + 9] = 'x';
     check(length);
+    look_up(length, 0);
     look_up(length, 2);
     look_up(length, 3);
     return 0;

@@ -41,6 +41,9 @@ pub fn build(tags: &[u32], groups: u32, limit: u32, buffer: &mut [u8]) -> BuildA
     if let First::At(i) = group::first_not_above(tags) {
         return refuse(Reason::NotAscending, i);
     }
+    if group::starts_unwired(tags) {
+        return refuse(Reason::UnwiredTag, 0);
+    }
     if buffer.len() < image_length(groups, tags.len()) {
         return refuse(Reason::BufferTooShort, 0);
     }
@@ -54,7 +57,7 @@ fn refuse(reason: Reason, place: usize) -> BuildAnswer
     BuildAnswer::Refused(Refusal { reason, place })
 }
 
-// Building where the checks 8, 4, 5, 6 and 9 pass: the tags are ordered by group.
+// Building where the checks 8, 4, 5, 6, 17 and 9 pass: the tags are ordered by group.
 fn build_admitted(tags: &[u32], groups: u32, limit: u32, buffer: &mut [u8]) -> BuildAnswer
     requires { ⌜ Admitted (now tags) groups limit (length (now buffer)) ⌝ }
     ensures answer { λ r. ⌜ buildOutcome r ≡ buildingOf (now (tags .entry)) groups limit (length (now (buffer .entry))) ⌝ }

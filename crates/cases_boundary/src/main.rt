@@ -17,9 +17,10 @@ fn build(name: &[u8], text: &[u8]) {
     report::words(b"\n");
 }
 
-// Prints what checking answers, and lookups of the tags 1 to 4.
+// Prints what checking answers, and lookups of the tags 0 to 4.
 fn image(name: &[u8], image: &[u8]) {
     answer(name, tag_index::tag_index_check(image));
+    answer(b"  lookup of 0", tag_index::tag_index_lookup(image, 0));
     answer(b"  lookup of 1", tag_index::tag_index_lookup(image, 1));
     answer(b"  lookup of 2", tag_index::tag_index_lookup(image, 2));
     answer(b"  lookup of 3", tag_index::tag_index_lookup(image, 3));
@@ -42,6 +43,10 @@ fn building() {
     build(
         b"tag 2 after tag 3",
         b"    2    9\n         1\n         3\n         2\n",
+    );
+    build(
+        b"a list with tag 0",
+        b"    2    9\n         0\n         1\n         2\n",
     );
     build(
         b"buffer of 77 for an image of 88 bytes",
@@ -74,7 +79,7 @@ fn long_texts() {
     );
 }
 
-// The image of the whole case, and damaged ones: 11, 12, 13, 14 and 15.
+// The image of the whole case, and damaged ones: 11, 12, 13, 14, 15 and 17.
 fn images() {
     image(
         b"whole image",
@@ -96,6 +101,14 @@ fn images() {
     image(
         b"tag twice",
         b"    3    2\n    0    0\n    1    1\n         2\n         3\n         3\n",
+    );
+    image(
+        b"tag 0 in slot 0",
+        b"    3    2\n    0    0\n    1    1\n         0\n         1\n         3\n",
+    );
+    image(
+        b"tag 0 in slot 2",
+        b"    3    2\n    0    0\n    1    1\n         2\n         1\n         0\n",
     );
 }
 

@@ -1,5 +1,5 @@
-// Runs cases of building: worked values 10, 11 and 12, each refusal and which of two comes first, and images byte by byte, with what
-// checking and lookup say of them.
+// Runs cases of building: worked values 4, 5, 6, 10, 11 and 12, each refusal and which of two comes first, and images byte by byte,
+// with what checking and lookup say of them.
 use building::BuildAnswer;
 use checking::CheckAnswer;
 use lookup::LookupAnswer;
@@ -100,11 +100,11 @@ fn images() {
     build(&[], 3, 65536, 50);
     build(&[1, 2], 1, 1, 44);
     build(&[1, 3], 1, 2, 44);
-    build(&[0, 2147483648], 1, 1, 44);
-    build(&[0, 1073741824], 1, 1, 44);
+    build(&[13, 2147483648], 1, 1, 44);
+    build(&[13, 1073741824], 1, 1, 44);
     build(&[599, 1193], 1, 1, 44);
-    build(&[0, 4294967295], 512, 1, 5665);
-    build(&[0, 4294967295], 5, 1, 100);
+    build(&[1, 908, 4294967295], 512, 1, 5676);
+    build(&[2, 4294967295], 5, 1, 100);
     build(&[14, 337764173, 964266638, 2787973142], 1, 9, 90);
     build(
         &[10, 20, 30, 40, 50, 60, 70, 80, 90, 100, 110, 120, 130, 140],
@@ -120,7 +120,7 @@ fn images() {
     );
 }
 
-// Each refusal, and which of two comes first: 8, 4, 5, 6, 9, 10, 7.
+// Each refusal, and which of two comes first: 8, 4, 5, 6, 9, 10, 7. 17 has cases of its own.
 fn refusals() {
     build(&[1, 2, 3], 0, 9, 66);
     build(&[1, 2, 3], 513, 9, 6000);
@@ -134,7 +134,12 @@ fn refusals() {
     build(&[1, 2, 3, 0], 2, 9, 0);
     build(&[1, 3], 1, 1, 43);
     build(&[1, 3], 1, 1, 44);
-    build(&[0, 1073741824, 3221225472], 1, 200, 55);
+    build(
+        &[536870912, 1073741824, 1610612736, 2684354560, 3758096384],
+        1,
+        200,
+        77,
+    );
     build(&[5, 8, 13, 16], 3, 1, 88);
     build(&[17, 23, 34, 40, 42, 45, 48, 51, 57], 3, 2, 143);
     build(&[17, 23, 34, 40, 42, 45, 48, 51, 57], 3, 7, 143);
@@ -212,9 +217,58 @@ fn sizes() {
     );
 }
 
+// Tag 0 is nobody's: 17 alone, worked values 4 and 5; before 9, before 10, and before 7, worked value 6; and behind 8, 4 and 6.
+fn unwired() {
+    build(&[0], 1, 1, 33);
+    build(&[0, 2147483648], 1, 1, 44);
+    build(&[0, 1073741824], 1, 1, 44);
+    build(&[0, 1, 2], 2, 9, 66);
+    build(&[0, 1, 2], 2, 9, 65);
+    build(
+        &[
+            0,
+            1,
+            2,
+            3,
+            4,
+            5,
+            6,
+            7,
+            8,
+            9,
+            10,
+            11,
+            12,
+            13,
+            14,
+            15,
+            16,
+            17,
+            18,
+            19,
+            20,
+            21,
+            22,
+            23,
+            24,
+        ],
+        1,
+        9,
+        600,
+    );
+    build(&[0, 1073741824, 3221225472], 1, 9, 55);
+    build(&[0, 1, 3], 2, 1, 66);
+    build(&[0, 1, 2], 513, 9, 66);
+    build(&[0, 1, 2], 2, 0, 66);
+    build(&[0, 1, 2], 2, 65537, 66);
+    build(&[0, 0], 1, 1, 44);
+    build(&[0, 2, 1], 2, 9, 0);
+}
+
 fn main() {
     whole_case();
     images();
     refusals();
     sizes();
+    unwired();
 }

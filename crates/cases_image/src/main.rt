@@ -164,8 +164,54 @@ fn groups_and_slots() {
     );
 }
 
+// 17 at the lowest slot that holds tag 0, in its place or not; behind 12, before 13, 14 and 15. The lookups of 0 in all images above
+// answer unknown wherever 11, 12 and 11 have passed, whatever the lines of its group say.
+fn unwired() {
+    image(
+        b"tag 0 in slot 0",
+        b"    3    2\n    0    0\n    1    1\n         0\n         1\n         3\n",
+    );
+    image(
+        b"tag 0 in slot 2",
+        b"    3    2\n    0    0\n    1    1\n         2\n         1\n         0\n",
+    );
+    image(
+        b"tag 0 in slots 1 and 2",
+        b"    3    2\n    0    0\n    1    1\n         2\n         0\n         0\n",
+    );
+    image(
+        b"tag 0 at its place, beside one tag",
+        b"    2    1\n    0    0\n         0\n2147483648\n",
+    );
+    image(
+        b"tag 0, last slot malformed",
+        b"    3    2\n    0    0\n    1    1\n         2\n         0\n        03\n",
+    );
+    image(
+        b"tag 0, own line malformed",
+        b"    3    2\n    0   00\n    1    1\n         2\n         1\n         0\n",
+    );
+    image(
+        b"tag 0, first start 1",
+        b"    3    2\n    1    0\n    1    1\n         2\n         0\n         3\n",
+    );
+    image(
+        b"tag 0, start past N",
+        b"    3    2\n    0    0\n    4    1\n         2\n         1\n         0\n",
+    );
+    image(
+        b"tag 0 behind a tag of another group",
+        b"    3    2\n    0    0\n    1    1\n         3\n         1\n         0\n",
+    );
+    image(
+        b"tag 0 before a tag twice",
+        b"    3    2\n    0    0\n    1    1\n         0\n         3\n         3\n",
+    );
+}
+
 fn main() {
     accepted();
     lines();
     groups_and_slots();
+    unwired();
 }

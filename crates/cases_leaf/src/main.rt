@@ -28,7 +28,7 @@ fn group(groups: u32, tag: u32) {
     report::words(b"\n");
 }
 
-// Worked values 1 and 3, and the ends of each range.
+// Worked values 1 and 3, and the ends of each range; place of one tag takes tag 0.
 fn places() {
     place(2, 0, 0, 1);
     place(2, 0, 0, 2);
@@ -38,6 +38,7 @@ fn places() {
     place(2, 1, 1, 3);
     place(24, 65535, 1, 4294967295);
     place(1, 0, 0, 0);
+    place(24, 65535, 1, 0);
 }
 
 // The refusals 1, 2, 3, and that the first condition met decides.

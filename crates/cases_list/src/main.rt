@@ -45,6 +45,8 @@ fn accepted() {
     into_three(b"    2    9\n         1\n         2\n         3\n");
     into_none(b"    1    1\n");
     into_three(b"99999    0\n4294967295\n         0\n");
+    // Reading takes tag 0 as any other.
+    into_three(b"    2    9\n         0\n         1\n");
 }
 
 // 16 at place 0, 16 at the first malformed line, 9; and that a malformed line comes before a lack of cells.

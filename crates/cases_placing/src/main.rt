@@ -1,4 +1,4 @@
-// Runs cases of placing a group: worked values 10 and 12, the traps, and each refusal.
+// Runs cases of placing a group: worked values 4, 5, 6, 10 and 12, the traps, and each refusal.
 use placing::PlacingAnswer;
 
 fn place(tags: &[u32], limit: u32) {
@@ -24,7 +24,7 @@ fn place(tags: &[u32], limit: u32) {
 // Groups that a mistaken search gets wrong: two chains that pass a tag twice; an eviction that does not end with the least sequence;
 // two least sequences that are not the numerically least word; a tag with equal places; an insertion that needs every eviction.
 fn traps() {
-    place(&[0, 2, 3044110112], 9);
+    place(&[13, 57, 61], 9);
     place(&[81, 134, 298, 325], 1);
     place(&[14, 337764173, 964266638, 2787973142], 9);
     place(&[599, 1193], 1);
@@ -113,8 +113,52 @@ fn sizes() {
     place(&[1, 2, 3, 2, 1], 1);
 }
 
+// Tag 0 is nobody's: 17 alone, worked values 4 and 5; before 7, worked value 6; and behind 4, 5 and 6. A 0 that is not first is 6.
+fn unwired() {
+    place(&[0], 1);
+    place(&[0, 2147483648], 1);
+    place(&[0, 1073741824], 1);
+    place(&[0, 1073741824, 3221225472], 1);
+    place(&[0, 3], 0);
+    place(&[0, 3], 65537);
+    place(
+        &[
+            0,
+            1,
+            2,
+            3,
+            4,
+            5,
+            6,
+            7,
+            8,
+            9,
+            10,
+            11,
+            12,
+            13,
+            14,
+            15,
+            16,
+            17,
+            18,
+            19,
+            20,
+            21,
+            22,
+            23,
+            24,
+        ],
+        65536,
+    );
+    place(&[0, 0], 1);
+    place(&[0, 7, 7], 9);
+    place(&[7, 0], 9);
+}
+
 fn main() {
     traps();
     limits();
     sizes();
+    unwired();
 }

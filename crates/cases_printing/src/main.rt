@@ -48,6 +48,11 @@ fn main() {
         b"    2    9\n         1\n         3\n         2\n",
     );
     print(
+        b"a list with tag 0",
+        b"    2    9\n         0\n         1\n         2\n",
+    );
+    print(b"tag 0 twice", b"    2    9\n         0\n         0\n");
+    print(
         b"a seed above 0 with L = 1",
         b"    2    1\n         1\n         2\n         3\n",
     );

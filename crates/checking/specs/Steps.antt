@@ -4,12 +4,17 @@ use mathlib.Core.Path.{_≡_}
 use mathlib.Core.Bool.{Bool}
 use mathlib.Core.List.{List}
 use mathlib.Core.Option.{Option, Option·getD}
+use lib.Dec.{eqb}
 use lib.ListN.{length, getD}
-use Rattle.refusal.specs.Limits.{tagsMax, groupsMax}
+use Rattle.refusal.specs.Limits.{tagsMax, groupsMax, unwired}
 use Rattle.refusal.specs.Outcome.{Outcome, answered, refused}
 use Rattle.image.specs.View.{View, startIn, seedIn, slotIn, faulty}
 use Rattle.slots.specs.declared.SlotFault.{SlotFault}
 use Rattle.slots.specs.declared.SlotFault.the-variants.{Misplaced, Repeated, Nowhere}
+
+-- Slot j holds 0, by the cells of the tags.
+abbrev pub unwiredAt : List ℕ → ℕ → Bool
+unwiredAt tags j = eqb (getD tags j 0) unwired
 
 -- Group g is faulty, by the cells of the starts.
 abbrev pub faultyAt : List ℕ → ℕ → Bool

@@ -21,16 +21,16 @@ use Rattle.text.specs.Line.{lineAt, groupLine, slotLine}
 use Rattle.text.specs.LineLaws.{group-only}
 use Rattle.text.specs.TagLines.{tagIn, noTagFrom, passed, tagsStored}
 use Rattle.text.specs.TagLinesLaws.{tag-slot, line-before, line-at, stored-length, stored-holds}
-use Rattle.image.specs.View.{View, viewOf, groupsIn, startIn, seedIn, endIn, slotLineIn, slotIn, faulty}
-use Rattle.image.specs.Checking.{openingChecks, malformedIn, misplaced, repeated, numberChecks, checkingChecks, checkingOf}
+use Rattle.image.specs.View.{View, viewOf, countIn, groupsIn, startIn, seedIn, endIn, slotLineIn, slotIn, faulty}
+use Rattle.image.specs.Checking.{openingChecks, malformedIn, holdsUnwired, misplaced, repeated, numberChecks, checkingChecks, checkingOf}
 use Rattle.image.specs.FaultLaws.{fair-of-faulty}
-use Rattle.image.specs.SameNumbersLaws.{SameNumbers, same-faulty, same-misplaced, same-repeated}
+use Rattle.image.specs.SameNumbersLaws.{SameNumbers, same-unwired, same-faulty, same-misplaced, same-repeated}
 use Rattle.opening.specs.Opening.{openingOf, Opens}
 use Rattle.opening.specs.OpeningLaws.{opening-refused, opening-passes, opening-answered}
 use Rattle.slots.specs.Cells.{cellsView, Legal, Regular}
 use Rattle.slots.specs.CellsLaws.{cells-count, cells-groups, cells-start, cells-seed, cells-slot, cells-end}
 use Rattle.slots.specs.Fault.{faultOf, faultBefore}
-use Rattle.checking.specs.Steps.{faultyAt, linesBefore, Filled, GroupsStored, TagsStored, faultOutcome}
+use Rattle.checking.specs.Steps.{unwiredAt, faultyAt, linesBefore, Filled, GroupsStored, TagsStored, faultOutcome}
 
 -- One cell more is filled.
 pub filled-none : (number : ℕ → ℕ) (from size : ℕ) (cells : List ℕ) → length cells ≡ size → Filled number from from size cells
@@ -184,31 +184,46 @@ module _ (starts seeds tags : List ℕ) (groups : ℕ) where
   abbrev cells : View
   cells = cellsView starts seeds tags groups
 
+  unwired-cells : first (holdsUnwired cells) (countIn cells) ≡ first (unwiredAt tags) (getD starts groups 0)
+  unfolding holdsUnwired
+  unwired-cells =
+      ap (first (holdsUnwired cells)) (cells-count starts seeds tags groups)
+      ∙ first-cong _ _ (getD starts groups 0) (λ j below. rw (cells-slot starts seeds tags groups j))
+
   faulty-cells : first (λ g. faulty g (startIn cells g) (endIn cells g)) (groupsIn cells) ≡ first (faultyAt starts) groups
   faulty-cells =
       ap (first (λ g. faulty g (startIn cells g) (endIn cells g))) (cells-groups starts seeds tags groups)
       ∙ first-cong _ _ groups (λ g below. rw (cells-start starts seeds tags groups g, cells-end starts seeds tags groups g below))
 
-  pub numbers-faulty : {g : ℕ} → first (faultyAt starts) groups ≡ some g → inOrder {A = ℕ} (numberChecks cells) (answered 0) ≡ refused 13 g
+  -- The lowest slot that holds 0 decides,
+  pub numbers-unwired : {j : ℕ} → first (unwiredAt tags) (getD starts groups 0) ≡ some j
+      → inOrder {A = ℕ} (numberChecks cells) (answered 0) ≡ refused 17 j
   unfolding numberChecks inOrder
-  numbers-faulty e = rw (faulty-cells, e)
+  numbers-unwired e = rw (unwired-cells, e)
 
-  pub numbers-slots : first (faultyAt starts) groups ≡ none
-      → inOrder (numberChecks cells) (answered 0) ≡ faultOutcome (faultBefore cells (getD starts groups 0))
-  unfolding numberChecks inOrder faultBefore
-  numbers-slots e =
-      rw (faulty-cells, e, cells-count starts seeds tags groups)
-      (go (first (misplaced cells) (getD starts groups 0)) (first (repeated cells) (getD starts groups 0)))
-    where
-      go : (o p : Option ℕ) → inOrder ((14, o) ∷ (15, p) ∷ []) (answered 0) ≡ faultOutcome (faultOf o p)
-      go (some j) p = refl
-      go none (some j) = refl
-      go none none = refl
+  -- and where none does, the lowest faulty group, and then the fault of the slots.
+  module _ (wired : first (unwiredAt tags) (getD starts groups 0) ≡ none) where
+    pub numbers-faulty : {g : ℕ} → first (faultyAt starts) groups ≡ some g
+        → inOrder {A = ℕ} (numberChecks cells) (answered 0) ≡ refused 13 g
+    unfolding numberChecks inOrder
+    numbers-faulty e = rw (unwired-cells, wired, faulty-cells, e)
+
+    pub numbers-slots : first (faultyAt starts) groups ≡ none
+        → inOrder (numberChecks cells) (answered 0) ≡ faultOutcome (faultBefore cells (getD starts groups 0))
+    unfolding numberChecks inOrder faultBefore
+    numbers-slots e =
+        rw (unwired-cells, wired, faulty-cells, e, cells-count starts seeds tags groups)
+        (go (first (misplaced cells) (getD starts groups 0)) (first (repeated cells) (getD starts groups 0)))
+      where
+        go : (o p : Option ℕ) → inOrder ((14, o) ∷ (15, p) ∷ []) (answered 0) ≡ faultOutcome (faultOf o p)
+        go (some j) p = refl
+        go none (some j) = refl
+        go none none = refl
 
 -- Views that state the same numbers are checked alike.
 same-numbers : (v w : View) → SameNumbers v w → inOrder {A = ℕ} (numberChecks v) (answered 0) ≡ inOrder (numberChecks w) (answered 0)
 unfolding numberChecks
-same-numbers v w same = rw (same-faulty v w same, same-misplaced v w same, same-repeated v w same)
+same-numbers v w same = rw (same-unwired v w same, same-faulty v w same, same-misplaced v w same, same-repeated v w same)
 
 -- An image that does not open is refused so.
 pub check-unopened : (image : List ℕ) {number place : ℕ} → openingOf image ≡ refused number place → checkingOf image ≡ refused number place

@@ -5,6 +5,7 @@ use refusal::GROUP_CELLS;
 use refusal::Reason;
 use refusal::Refusal;
 use refusal::TAG_CELLS;
+use refusal::UNWIRED;
 use slots::START_CELLS;
 use slots::SlotFault;
 use text::LINE_LENGTH;
@@ -24,7 +25,7 @@ ghost use Rattle.image.specs.Checking.{malformedIn, numberChecks, checkingOf};
 ghost use Rattle.opening.specs.Opening.{openingOf, Opens};
 ghost use Rattle.slots.specs.Cells.{cellsView, Legal};
 ghost use Rattle.checking.specs.Answer.{checkOutcome};
-ghost use Rattle.checking.specs.Steps.{faultyAt, linesBefore, GroupsStored, TagsStored};
+ghost use Rattle.checking.specs.Steps.{unwiredAt, faultyAt, linesBefore, GroupsStored, TagsStored};
 
 // What checking answers: accepted, or refused.
 pub enum CheckAnswer {
@@ -107,7 +108,7 @@ fn read_slot_lines(image: &[u8], count: u32, groups: u32, tags: &mut [u32; TAG_C
     text::read_tag_lines(image, from, from + count as usize, tags)
 }
 
-// The checks behind those of the lines, over the numbers that the lines state: 13, 14 and 15.
+// The checks behind those of the lines, over the numbers that the lines state: 17, 13, 14 and 15.
 fn check_cells(
     starts: &[u32; START_CELLS],
     seeds: &[u32; GROUP_CELLS],
@@ -118,6 +119,10 @@ fn check_cells(
     ensures answer { λ r. ⌜ checkOutcome r
         ≡ inOrder (numberChecks (cellsView (now (starts .entry)) (now (seeds .entry)) (now (tags .entry)) groups)) (answered 0) ⌝ }
 {
+    let count = starts[groups as usize];
+    if let First::At(j) = unwired_slot(tags, count) {
+        return refused(Reason::UnwiredTag, j);
+    }
     if let First::At(g) = faulty_group(starts, groups) {
         return refused(Reason::FaultyGroup, g);
     }
@@ -126,6 +131,21 @@ fn check_cells(
         SlotFault::Repeated(j) => refused(Reason::RepeatedTag, j),
         SlotFault::Nowhere => CheckAnswer::Accepted,
     }
+}
+
+// The lowest slot that holds 0. The cells behind the slots hold 0 too, and are not looked at.
+fn unwired_slot(tags: &[u32; TAG_CELLS], count: u32) -> First
+    requires { ⌜ count ≤ tagsMax ⌝ }
+    ensures answer { λ r. ⌜ firstMeaning r ≡ first (unwiredAt (now (tags .entry))) count ⌝ }
+{
+    let mut j = 0;
+    while j < count as usize {
+        if tags[j] == UNWIRED {
+            return First::At(j);
+        }
+        j += 1;
+    }
+    First::Nowhere
 }
 
 // The lowest faulty group.

@@ -1,16 +1,17 @@
 -- The claim from building's answer, and from lookup in what it wrote. Assumes nothing.
-use mathlib.Core.Path.{_≡_, sym}
+use mathlib.Core.Path.{_≡_, refl, sym}
 use mathlib.Core.Bool.{true}
 use mathlib.Core.List.{List}
 use Prim.Native.Nat.{ℕ, _≤_, _<_}
 use native.Mathlib.Omega.{arith}
 use lib.ListN.{length, take, drop, length-append}
-use Rattle.refusal.specs.Limits.{tagEnd}
-use Rattle.refusal.specs.Outcome.{answered, refused, followedBy}
+use Rattle.refusal.specs.Limits.{tagEnd, unwired}
+use Rattle.refusal.specs.Outcome.{Outcome, answered, refused, followedBy}
 use Rattle.lists.specs.Occurs.{occurs}
-use Rattle.image.specs.Lookup.{lookupOf}
+use Rattle.image.specs.Lookup.{number, lookupOf}
 use Rattle.numbering.specs.Building.{imageOf, buildingOf, bufferAfter}
 use Rattle.numbering.specs.BuildingLaws.{image-length, buffer-written, answered-size}
+use Rattle.numbering.specs.UnwiredLaws.{building-wired}
 use Rattle.condition3_theorem.specs.Condition3Theorem.{image-written, looked-up}
 use Rattle.claim.specs.Claim.{foundIn, claimOf}
 
@@ -42,3 +43,16 @@ module _ (tags : List ℕ) (groups limit : ℕ) (before : List ℕ) (tag : ℕ) 
   claim-found {size} words is e =
       rw (is, image-written tags groups limit before size e (sym (answered-size tags groups limit (length before) e)), e)
       (looked-up tags groups limit (length before) words e tag)
+
+-- Tag 0 has a number in nothing that building writes.
+pub claim-unwired : (tags : List ℕ) (groups limit room j : ℕ) → claimOf tags groups limit room unwired ≡ answered (number j) → ⊥
+unfolding claimOf followedBy foundIn
+claim-unwired tags groups limit room j = go (buildingOf tags groups limit room) refl
+  where
+    go : (o : Outcome ℕ) → buildingOf tags groups limit room ≡ o
+        → followedBy o (λ size. answered (foundIn tags groups limit unwired)) ≡ answered (number j) → ⊥
+    go (answered size) e found =
+        let nobody = rw (building-wired tags groups limit room e) at found in
+        let z : _≡_ {A = ℕ} 0 1 = cc in
+        omega arith
+    go (refused reason place) e found = let z : _≡_ {A = ℕ} 0 1 = cc in omega arith

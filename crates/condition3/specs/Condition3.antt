@@ -40,12 +40,14 @@ pub record LowestWithout (groups : ℕ) (tags : List ℕ) (limit g : ℕ) : Type
   pub without : (s : ℕ) → s < limit → NothingFills groups tags g s
   pub lower : (h : ℕ) → h < g → HasSeed groups tags limit h
 
--- "The earlier checks are those that building makes before 7": the six conditions on the inputs.
+-- "The earlier checks are those that building makes before 7": the seven conditions on the inputs. The first tag, where there is one,
+-- is not 0.
 pub record EarlierChecks (tags : List ℕ) (groups limit room : ℕ) : Type 0 where
   pub groups-legal : (1 ≤ groups) × (groups ≤ 512)
   pub limit-legal : (1 ≤ limit) × (limit ≤ 65536)
   pub count-legal : length tags ≤ 4096
   pub ascending : (i : ℕ) → suc i < length tags → getD tags i 0 < getD tags (suc i) 0
+  pub wired : 0 < length tags → 0 < getD tags 0 0
   pub fits : 11 * (1 + groups + length tags) ≤ room
   pub groups-small : (g : ℕ) → g < groups → length (members groups g tags) ≤ 24
 

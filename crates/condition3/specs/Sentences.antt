@@ -125,9 +125,10 @@ module _ {tags : List ℕ} {groups limit room : ℕ} {answer : Outcome ℕ} {aft
   pub passed-over-refused : (g : ℕ) → answer ≡ refused 7 g → (s : ℕ) → s < limit → Nothing tags groups g s
   passed-over-refused = c .no-seed
 
-  -- "A list that passes all earlier checks": 8, 4, 5, 6, 9 and 10.
+  -- "A list that passes all earlier checks": 8, 4, 5, 6, 17, 9 and 10.
   module _ (groups-legal : (1 ≤ groups) × (groups ≤ 512)) (limit-legal : (1 ≤ limit) × (limit ≤ 65536)) (count-legal : length tags ≤ 4096)
       (ascending : (i : ℕ) → suc i < length tags → getD tags i 0 < getD tags (suc i) 0)
+      (wired : 0 < length tags → 0 < getD tags 0 0)
       (fits : 11 * (1 + groups + length tags) ≤ room)
       (small : (g : ℕ) → g < groups → length (members groups g tags) ≤ 24) where
     checks : EarlierChecks tags groups limit room
@@ -136,6 +137,7 @@ module _ {tags : List ℕ} {groups limit room : ℕ} {answer : Outcome ℕ} {aft
       limit-legal = limit-legal;
       count-legal = count-legal;
       ascending = ascending;
+      wired = wired;
       fits = fits;
       groups-small = small;
     }

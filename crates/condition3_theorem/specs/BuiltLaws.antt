@@ -10,8 +10,8 @@ use native.Mathlib.Omega.{arith}
 use lib.Dec.{eqb, leb, ltb}
 use lib.ListN.{length}
 use borrow.Author.Tests.{ltb-true, ltb-false, le-ltb, eq-eqb, ne-eqb}
-use Rattle.refusal.specs.Limits.{tagEnd, tagsMax, groupsMax, groupMax, seedMax}
-use Rattle.refusal.specs.Outcome.{answered}
+use Rattle.refusal.specs.Limits.{tagEnd, tagsMax, groupsMax, groupMax, seedMax, unwired}
+use Rattle.refusal.specs.Outcome.{Outcome, answered}
 use Rattle.lists.specs.FirstLaws.{first-out, isSome-of-some, isSome-of-none}
 use Rattle.refusal.specs.ChecksLaws.{met-false}
 use Rattle.hash.specs.Formula.{groupOf, placeOf}
@@ -24,12 +24,11 @@ use Rattle.group.specs.Group.{bothPlaces}
 use Rattle.image.specs.Sheet.{Sheet, bytesOf, imageLength}
 use Rattle.image.specs.SheetLaws.{bytes-length, header-reads, group-reads, slot-reads}
 use Rattle.image.specs.View.{View, viewOf, countIn, groupsIn, startIn, seedIn, endIn, slotLineIn, slotIn, candidateIn}
-use Rattle.image.specs.Checking.{openingChecks, groupOfSlot, misplaced, repeated}
-use Rattle.image.specs.Lookup.{number, unknown, lookupInGroup}
+use Rattle.image.specs.Checking.{openingChecks, groupOfSlot, holdsUnwired, misplaced, repeated}
+use Rattle.image.specs.Lookup.{Found, number, unknown}
 use Rattle.image.specs.Fair.{LiesIn, AllFair}
 use Rattle.image.specs.FaultLaws.{faulty-of-fair, lies-once, groupOfSlot-lies}
-use Rattle.image.specs.LinesRead.{ownGroup}
-use Rattle.image.specs.CheckedLookupLaws.{Sound, slotIn-reads, Looked, found, nowhere, own-placed, lookup-ends}
+use Rattle.image.specs.CheckedLookupLaws.{Sound, slotIn-reads, Looked, found, nowhere, own-placed}
 use Rattle.numbering.specs.Members.{members, startOf}
 use Rattle.numbering.specs.MembersLaws.{start-zero, start-all, start-suc}
 use Rattle.numbering.specs.Number.{choiceOf, placeIn, numberOf, tagNumbered}
@@ -63,7 +62,7 @@ reads-back s r = record {
 
 module _ {v : View} {groups : ℕ} {tags : List ℕ} {seed : ℕ → ℕ} {choices : ℕ → List Bool}
     (reads : Reads v (sheetOf groups tags seed choices)) (fills : AllFill groups tags seed choices)
-    (few : (g : ℕ) → g < groups → length (members groups g tags) ≤ groupMax) where
+    (few : (g : ℕ) → g < groups → length (members groups g tags) ≤ groupMax) (wired : occurs unwired tags ≡ false) where
   placed : Placed groups tags (ownPlace groups tags seed choices)
   placed = all-placed fills
 
@@ -142,8 +141,8 @@ module _ {v : View} {groups : ℕ} {tags : List ℕ} {seed : ℕ → ℕ} {choic
         small = omega (arith, start-suc groups g tags, few g below);
       })
 
-  many : 0 < groupsIn v
-  many = rw groups-is (fills .some-group)
+  pub built-many : 0 < groupsIn v
+  built-many = rw groups-is (fills .some-group)
 
   number-lies : (t : ℕ) → occurs t tags ≡ true → LiesIn v (numberOf groups tags seed choices t) (groupOf groups t)
   unfolding numberOf
@@ -156,7 +155,16 @@ module _ {v : View} {groups : ℕ} {tags : List ℕ} {seed : ℕ → ℕ} {choic
         below = rw (end-is g lt) (omega (arith, start-suc groups g tags, placed .inside t m));
       }
 
-  -- In a slot stands a tag of the slot's group, at one of its places,
+  -- In a slot stands a listed tag, and so not 0,
+  slot-wired : (j : ℕ) → j < countIn v → holdsUnwired v j ≡ false
+  unfolding holdsUnwired
+  slot-wired j lt =
+      let below : j < length tags = rw count-is at lt in
+      let listed = (slot-tag j below) .0 in
+      ne-eqb (slotIn v j) unwired (λ zero.
+      occurs-not unwired tags (rw (sym (slotIn-reads v j (slot-is j below)) ∙ zero) at listed) wired)
+
+  -- a tag of the slot's group, at one of its places,
   slot-placed : (j : ℕ) → j < countIn v → misplaced v j ≡ false
   slot-placed j lt =
       let below : j < length tags = rw count-is at lt in
@@ -164,7 +172,7 @@ module _ {v : View} {groups : ℕ} {tags : List ℕ} {seed : ℕ → ℕ} {choic
       let (listed, e) = slot-tag j below in
       let lies : LiesIn v j (groupOf groups t) = rw e at (number-lies t listed) in
       let same : groupOf groups t ≡ groupOfSlot v j =
-      lies-once v fair j (groupOf groups t) (groupOfSlot v j) lies (groupOfSlot-lies v fair j many lt) in
+      lies-once v fair j (groupOf groups t) (groupOfSlot v j) lies (groupOfSlot-lies v fair j built-many lt) in
       own-placed v j t (slotIn-reads v j (slot-is j below)) (rw groups-is same) (rw (← same) (rw e at (number-slot t)))
 
   -- and in no two slots the same.
@@ -196,37 +204,31 @@ module _ {v : View} {groups : ℕ} {tags : List ℕ} {seed : ℕ → ℕ} {choic
     );
     group-lines = λ g lt. isSome-of-some (reads .group g (rw groups-is at lt));
     slot-lines = λ j lt. isSome-of-some (slot-is j (rw count-is at lt));
+    wired = slot-wired;
     not-faulty = λ g lt. faulty-of-fair g (startIn v g) (endIn v g) (fair g lt);
     placed = slot-placed;
     once = slot-once;
   }
 
-  -- Lookup answers the number of a listed tag,
-  pub built-listed : (t : ℕ) → occurs t tags ≡ true
-      → lookupInGroup v t (ownGroup v t) ≡ answered (number (numberOf groups tags seed choices t))
+  -- A lookup of a listed tag answers its number,
+  pub built-listed : (t : ℕ) {outcome : Outcome Found} → Looked v t outcome → occurs t tags ≡ true
+      → outcome ≡ answered (number (numberOf groups tags seed choices t))
   unfolding numberOf
-  built-listed t m = go (lookup-ends v built-sound many t)
-    where
-      go : Looked v t (lookupInGroup v t (ownGroup v t))
-          → lookupInGroup v t (ownGroup v t) ≡ answered (number (numberOf groups tags seed choices t))
-      go (found j holds e) =
-          let below : j < length tags = rw count-is at (holds .slot) in
-          let same : tagAt j ≡ t = (let a = slot-is j below in let b = holds .tag in cc) in
-          e ∙ ap (λ (i : ℕ). answered (number i)) (sym ((slot-tag j below) .1) ∙ ap (numberOf groups tags seed choices) same)
-      go (nowhere none-holds e) =
-          let j = numberOf groups tags seed choices t in
-          let below : j < length tags = number-below placed t m in
-          let (listed, same) = slot-tag j below in
-          let tag-same : tagAt j ≡ t = number-apart placed (tagAt j) t listed m same in
-          absurd (none-holds j (record { slot = rw count-is below; tag = rw tag-same at (slot-is j below) }))
+  built-listed t (found j holds e) m =
+      let below : j < length tags = rw count-is at (holds .slot) in
+      let same : tagAt j ≡ t = (let a = slot-is j below in let b = holds .tag in cc) in
+      e ∙ ap (λ (i : ℕ). answered (number i)) (sym ((slot-tag j below) .1) ∙ ap (numberOf groups tags seed choices) same)
+  built-listed t (nowhere none-holds e) m =
+      let j = numberOf groups tags seed choices t in
+      let below : j < length tags = number-below placed t m in
+      let (listed, same) = slot-tag j below in
+      let tag-same : tagAt j ≡ t = number-apart placed (tagAt j) t listed m same in
+      absurd (none-holds j (record { slot = rw count-is below; tag = rw tag-same at (slot-is j below) }))
 
-  -- and unknown for any other.
-  pub built-unlisted : (t : ℕ) → occurs t tags ≡ false → lookupInGroup v t (ownGroup v t) ≡ answered unknown
-  built-unlisted t absent = go (lookup-ends v built-sound many t)
-    where
-      go : Looked v t (lookupInGroup v t (ownGroup v t)) → lookupInGroup v t (ownGroup v t) ≡ answered unknown
-      go (found j holds e) =
-          let below : j < length tags = rw count-is at (holds .slot) in
-          let same : tagAt j ≡ t = (let a = slot-is j below in let b = holds .tag in cc) in
-          absurd (occurs-not t tags (rw same at ((slot-tag j below) .0)) absent)
-      go (nowhere none-holds e) = e
+  -- and one of any other unknown.
+  pub built-unlisted : (t : ℕ) {outcome : Outcome Found} → Looked v t outcome → occurs t tags ≡ false → outcome ≡ answered unknown
+  built-unlisted t (found j holds e) absent =
+      let below : j < length tags = rw count-is at (holds .slot) in
+      let same : tagAt j ≡ t = (let a = slot-is j below in let b = holds .tag in cc) in
+      absurd (occurs-not t tags (rw same at ((slot-tag j below) .0)) absent)
+  built-unlisted t (nowhere none-holds e) absent = e

@@ -9,7 +9,7 @@ use native.Mathlib.Omega.{arith}
 use lib.ListN.{length, take, drop}
 use lib.Seq.{take-at}
 use borrow.Author.Tests.{ltb-false, le-ltb, not-true}
-use Rattle.refusal.specs.Limits.{tagEnd, tagsMax, groupsMax, groupMax, limitMax}
+use Rattle.refusal.specs.Limits.{tagEnd, tagsMax, groupsMax, groupMax, limitMax, unwired}
 use Rattle.refusal.specs.LimitsLaws.{outside-not, inside}
 use Rattle.refusal.specs.Outcome.{answered, refused}
 use Rattle.lists.specs.First.{first, isSome}
@@ -21,13 +21,13 @@ use Rattle.text.specs.Line.{lineLength}
 use Rattle.lists.specs.Occurs.{occurs}
 use Rattle.group.specs.Group.{leastSeed, taken}
 use Rattle.group.specs.GroupLaws.{LeastSeed, leastSeed-none}
-use Rattle.group.specs.Ascending.{limitCheck, ascendingCheck}
 use Rattle.group.specs.AscendingLaws.{ascending-of-check, check-of-ascending}
+use Rattle.group.specs.UnwiredLaws.{wired-of-check, check-of-wired, wired-absent}
 use Rattle.image.specs.Sheet.{Sheet, imageLength}
 use Rattle.image.specs.SheetLaws.{group-at}
 use Rattle.image.specs.View.{viewOf}
 use Rattle.image.specs.Checking.{checkingChecks, checkingOf}
-use Rattle.image.specs.CheckedLookupLaws.{pass-of-sound}
+use Rattle.image.specs.CheckedLookupLaws.{Sound, pass-of-sound, Looked, image-ends}
 use Rattle.image.specs.Lookup.{number, unknown, lookupOf}
 use Rattle.numbering.specs.Members.{members}
 use Rattle.numbering.specs.MembersLaws.{start-all, start-before}
@@ -36,7 +36,7 @@ use Rattle.numbering.specs.NumberLaws.{number-below, number-apart, number-onto,
 use Rattle.numbering.specs.Building.{sheetOf, seedTaken, choicesTaken, imageOf, tooLarge, seedless, earlierChecks, buildingChecks}
 use Rattle.numbering.specs.Building.{buildingOf, written, bufferAfter}
 use Rattle.numbering.specs.BuildingLaws.{image-length, building-seedless, building-answered, seed-least, taken-fill}
-use Rattle.condition3_theorem.specs.BuiltLaws.{Reads, InRange, reads-back, built-sound, built-listed, built-unlisted}
+use Rattle.condition3_theorem.specs.BuiltLaws.{Reads, InRange, reads-back, built-many, built-sound, built-listed, built-unlisted}
 use Rattle.condition3.specs.Condition3.{NothingFills, HasSeed, LowestWithout, EarlierChecks, Accepted, Condition3}
 
 module _ (tags : List ℕ) (groups limit : ℕ) where
@@ -85,12 +85,13 @@ module _ (tags : List ℕ) (groups limit : ℕ) where
 
     -- The checks before 7 pass exactly where the conditions on the inputs hold: one line for each, in their order.
     pass-of-earlier : EarlierChecks tags groups limit room → Pass earlier
-    unfolding earlierChecks limitCheck imageLength
+    unfolding earlierChecks imageLength
     pass-of-earlier h =
         met-false (outside-not 1 groupsMax groups (h .groups-legal .0) (h .groups-legal .1))
         then met-false (outside-not 1 limitMax limit (h .limit-legal .0) (h .limit-legal .1))
         then met-false (le-ltb tagsMax (length tags) (h .count-legal))
         then check-of-ascending tags (h .ascending)
+        then check-of-wired tags (h .wired)
         then met-false (le-ltb room (lineLength * (1 + groups + length tags)) (h .fits))
         then first-out (tooLarge groups tags) groups small
         then tt
@@ -99,12 +100,13 @@ module _ (tags : List ℕ) (groups limit : ℕ) where
         small g lt = le-ltb groupMax (length (members groups g tags)) (h .groups-small g lt)
 
     pub earlier-of-pass : Pass earlier → EarlierChecks tags groups limit room
-    unfolding earlierChecks limitCheck ascendingCheck imageLength
+    unfolding earlierChecks imageLength
     earlier-of-pass h = record {
       groups-legal = inside 1 groupsMax groups (false-of-met _ (passed earlier h 8));
       limit-legal = inside 1 limitMax limit (false-of-met _ (passed earlier h 4));
       count-legal = ltb-false tagsMax (length tags) (false-of-met _ (passed earlier h 5));
       ascending = ascending-of-check tags (passed earlier h 6);
+      wired = wired-of-check tags (passed earlier h 17);
       fits = ltb-false room (lineLength * (1 + groups + length tags)) (false-of-met _ (passed earlier h 9));
       groups-small = λ g lt.
           let small = first-none (tooLarge groups tags) groups (passed earlier h 10) g lt in
@@ -127,7 +129,7 @@ module _ (tags : List ℕ) (groups limit : ℕ) where
 
     -- A refusal 7 comes from the last check, since no earlier one has its number.
     first-of-seven : (g : ℕ) → buildingOf tags groups limit room ≡ refused 7 g → first (seedless groups tags limit) groups ≡ some g
-    unfolding buildingOf buildingChecks earlierChecks limitCheck ascendingCheck
+    unfolding buildingOf buildingChecks earlierChecks
     first-of-seven g e =
         let met = inOrder-refused (buildingChecks tags groups limit room) (imageLength groups (length tags)) e in
         go (met-behind earlier ((7, first (seedless groups tags limit) groups) ∷ []) 7 g refl met .1)
@@ -176,9 +178,27 @@ module _ (tags : List ℕ) (groups limit : ℕ) where
       unfolding imageOf
       reads = reads-back sheet in-range
 
+      wired : occurs unwired tags ≡ false
+      wired = wired-absent tags (h .ascending) (h .wired)
+
+      -- The image is sound, so each lookup in it ends at the tag's slot, or nowhere since no slot holds it.
+      sound : Sound (viewOf (imageOf groups tags limit))
+      sound = built-sound reads all-fill (h .groups-small) wired
+
+      ends : (t : ℕ) → Looked (viewOf (imageOf groups tags limit)) t (lookupOf (imageOf groups tags limit) t)
+      ends = image-ends (imageOf groups tags limit) sound (built-many reads all-fill (h .groups-small) wired)
+
+      found-listed : (t : ℕ) → occurs t tags ≡ true
+          → lookupOf (imageOf groups tags limit) t
+          ≡ answered (number (numberOf groups tags (seedTaken groups tags limit) (choicesTaken groups tags limit) t))
+      found-listed t m = built-listed reads all-fill (h .groups-small) wired t (ends t) m
+
+      unknown-unlisted : (t : ℕ) → occurs t tags ≡ false → lookupOf (imageOf groups tags limit) t ≡ answered unknown
+      unknown-unlisted t absent = built-unlisted reads all-fill (h .groups-small) wired t (ends t) absent
+
       accepted-as : (size : ℕ) (after : List ℕ) → size ≡ 11 * (1 + groups + length tags) → take size after ≡ imageOf groups tags limit
           → Accepted tags groups limit after size
-      unfolding choicesTaken lookupOf numberOf imageOf sheetOf
+      unfolding choicesTaken numberOf imageOf sheetOf
       accepted-as size after whole e = record {
         seed = seedTaken groups tags limit;
         choices = choicesTaken groups tags limit;
@@ -197,8 +217,8 @@ module _ (tags : List ℕ) (groups limit : ℕ) where
               number-is = r .value;
               only = λ t m same. number-apart (all-placed all-fill) t (r .from) m (r .listed) (same ∙ sym (r .value));
             };
-        listed = λ t word m. rw e (built-listed reads all-fill (h .groups-small) t m);
-        unlisted = λ t word absent. rw e (built-unlisted reads all-fill (h .groups-small) t absent);
+        listed = λ t word m. rw e (found-listed t m);
+        unlisted = λ t word absent. rw e (unknown-unlisted t absent);
       }
 
 -- What building writes is accepted by checking.
@@ -208,9 +228,7 @@ unfolding checkingOf
 built-checked tags groups limit room words e =
     let (h, every, size) = answered-says tags groups limit room e in
     let v = viewOf (imageOf groups tags limit) in
-    let fill = all-fill tags groups limit room words h every in
-    let sound = built-sound (reads tags groups limit room words h every) fill (h .groups-small) in
-    inOrder-pass (checkingChecks v) (answered 0) (pass-of-sound v sound)
+    inOrder-pass (checkingChecks v) (answered 0) (pass-of-sound v (sound tags groups limit room words h every))
 
 -- The buffer's first bytes after an accepted building are the image.
 pub image-written : (tags : List ℕ) (groups limit : ℕ) (before : List ℕ) (size : ℕ)
@@ -250,7 +268,6 @@ pub looked-up : (tags : List ℕ) (groups limit room : ℕ) {size : ℕ} → ((t
     → buildingOf tags groups limit room ≡ answered size → (t : ℕ)
     → let own = numberOf groups tags (seedTaken groups tags limit) (choicesTaken groups tags limit) t in
     lookupOf (imageOf groups tags limit) t ≡ answered (cond (occurs t tags) (number own) unknown)
-unfolding lookupOf
 looked-up tags groups limit room words e t = by (occurs t tags) refl
   where
     h : EarlierChecks tags groups limit room
@@ -259,11 +276,8 @@ looked-up tags groups limit room words e t = by (occurs t tags) refl
     every : first (seedless groups tags limit) groups ≡ none
     every = (answered-says tags groups limit room e) .1
 
-    fill : AllFill groups tags (seedTaken groups tags limit) (choicesTaken groups tags limit)
-    fill = all-fill tags groups limit room words h every
-
     by : (b : Bool) → occurs t tags ≡ b
         → let own = numberOf groups tags (seedTaken groups tags limit) (choicesTaken groups tags limit) t in
         lookupOf (imageOf groups tags limit) t ≡ answered (cond (occurs t tags) (number own) unknown)
-    by true m = rw m (built-listed (reads tags groups limit room words h every) fill (h .groups-small) t m)
-    by false m = rw m (built-unlisted (reads tags groups limit room words h every) fill (h .groups-small) t m)
+    by true m = rw m (found-listed tags groups limit room words h every t m)
+    by false m = rw m (unknown-unlisted tags groups limit room words h every t m)

@@ -12,7 +12,6 @@ use Rattle.refusal.specs.LimitsLaws.{inside}
 use Rattle.refusal.specs.Checks.{Check, met}
 use Rattle.refusal.specs.ChecksLaws.{_then_, false-of-met, passed, checksBefore}
 use Rattle.refusal.specs.PlaceLaws.{PlaceBelow, below-checks, below-followed, met-below, first-below}
-use Rattle.group.specs.Ascending.{limitCheck, ascendingCheck}
 use Rattle.list.specs.Reading.{lineCount, readingChecks, readingOf}
 use Rattle.numbering.specs.Building.{earlierChecks, buildingChecks, buildingOf}
 use Rattle.numbering.specs.FromText.{listFromText, buildingFromText}
@@ -35,13 +34,14 @@ reading-place text short =
 
 -- and one of building an index of a list that is not too long, or a group.
 building-place : (tags : List ℕ) (groups limit room : ℕ) → PlaceBelow textLines (buildingOf tags groups limit room)
-unfolding buildingOf buildingChecks earlierChecks limitCheck ascendingCheck
+unfolding buildingOf buildingChecks earlierChecks
 building-place tags groups limit room =
     below-checks textLines checks _
     ((λ _. met-below textLines _ (omega arith))
     then (λ _. met-below textLines _ (omega arith))
     then (λ _. met-below textLines _ (omega arith))
     then (λ passes. first-below textLines _ (length tags) (few (passed (checksBefore 6 checks) passes 5)))
+    then (λ _. met-below textLines _ (omega arith))
     then (λ _. met-below textLines _ (omega arith))
     then (λ passes. first-below textLines _ groups (legal (passed (checksBefore 10 checks) passes 8)))
     then (λ passes. first-below textLines _ groups (legal (passed (checksBefore 7 checks) passes 8)))

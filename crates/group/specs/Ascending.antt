@@ -9,7 +9,7 @@ use Rattle.lists.specs.First.{first}
 use Rattle.refusal.specs.Checks.{Check, met}
 
 -- "4: L not 1 to 65,536."
-unfoldable pub limitCheck : ℕ → Check
+abbrev pub limitCheck : ℕ → Check
 limitCheck limit = (4, met (outside 1 limitMax limit))
 
 -- The tag with this index is not above the one before; the first tag has none before it.
@@ -18,7 +18,7 @@ notAbove tags zero = false
 notAbove tags (suc i) = leb (getD tags (suc i) 0) (getD tags i 0)
 
 -- "6: not strictly ascending, at the first index whose tag is not above the one before."
-unfoldable pub ascendingCheck : List ℕ → Check
+abbrev pub ascendingCheck : List ℕ → Check
 ascendingCheck tags = (6, first (notAbove tags) (length tags))
 
 -- "strictly ascending"

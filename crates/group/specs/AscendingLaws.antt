@@ -15,12 +15,12 @@ use Rattle.group.specs.Ascending.{notAbove, ascendingCheck, Ascending}
 
 -- Check 6 is not met exactly where the list is strictly ascending.
 pub ascending-of-check : (tags : List ℕ) → ascendingCheck tags .1 ≡ none → Ascending tags
-unfolding ascendingCheck notAbove
+unfolding notAbove
 ascending-of-check tags e i lt =
     leb-false (getD tags (suc i) 0) (getD tags i 0) (first-none (notAbove tags) (length tags) e (suc i) lt)
 
 pub check-of-ascending : (tags : List ℕ) → Ascending tags → ascendingCheck tags .1 ≡ none
-unfolding ascendingCheck notAbove
+unfolding notAbove
 check-of-ascending tags up = first-out (notAbove tags) (length tags) above
   where
     above : (i : ℕ) → i < length tags → notAbove tags i ≡ false

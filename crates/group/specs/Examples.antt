@@ -13,14 +13,15 @@ use Rattle.lists.specs.Occurs.{occurs}
 use Rattle.filling.specs.Filling.{placeBy}
 use Rattle.filling.specs.Least.{beginning, leastFrom, least, feasible}
 use Rattle.group.specs.Group.{bothPlaces, candidates, leastSeed}
-use Rattle.group.specs.Ascending.{limitCheck, notAbove, ascendingCheck}
+use Rattle.group.specs.Ascending.{notAbove}
+use Rattle.group.specs.Unwired.{startsUnwired}
 use Rattle.group.specs.Placing.{placingChecks, placingOf}
 
 -- `unfolding computed` opens every definition that these compute through.
 computed : ℕ
 unfolding orElse outside first metAt isSome met inOrder product highPart hashed multiplier placeOf occurs placeBy
-    beginning leastFrom least feasible bothPlaces candidates leastSeed limitCheck notAbove ascendingCheck placingChecks
-    placingOf
+    beginning leastFrom least feasible bothPlaces candidates leastSeed notAbove startsUnwired
+    placingChecks placingOf
 computed = 0
 
 -- One tag, once more than a group holds tags, which is too many tags, not ascending, and has no seed.
@@ -35,10 +36,15 @@ five-before-six : placingOf tooMany 1 ≡ refused 5 0
 unfolding computed
 five-before-six = refl
 
--- The tags 3 and 1: no seed below 1 serves them either.
-six-before-seven : placingOf (3 ∷ 1 ∷ []) 1 ≡ refused 6 1
+-- Tag 0 twice.
+six-before-seventeen : placingOf (0 ∷ 0 ∷ []) 1 ≡ refused 6 1
 unfolding computed
-six-before-seven = refl
+six-before-seventeen = refl
+
+-- The tags of worked value 6: no seed serves them either.
+seventeen-before-seven : placingOf (0 ∷ 1073741824 ∷ 3221225472 ∷ []) 1 ≡ refused 17 0
+unfolding computed
+seventeen-before-seven = refl
 
 seven-last : placingOf (1 ∷ 3 ∷ []) 1 ≡ refused 7 0
 unfolding computed

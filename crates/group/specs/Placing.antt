@@ -12,6 +12,7 @@ use Rattle.refusal.specs.Checks.{Check, met, inOrder}
 use Rattle.filling.specs.Word.{wordOf}
 use Rattle.group.specs.Group.{leastSeed, taken}
 use Rattle.group.specs.Ascending.{limitCheck, ascendingCheck}
+use Rattle.group.specs.Unwired.{unwiredCheck}
 
 -- What placing answers: the seed and the choice word.
 pub record Placement : Type 0 where
@@ -19,12 +20,13 @@ pub record Placement : Type 0 where
   pub word : ℕ
 
 -- "4: L not 1 to 65,536. 5: more than 24 tags. 6: not strictly ascending, at the first index whose tag is not above the one
--- before. 7: no seed below L has a filling sequence." Placing's 7 names no group.
+-- before. 7: no seed below L has a filling sequence." Placing's 7 names no group. "17 if the first tag is 0, directly after 6."
 unfoldable pub placingChecks : List ℕ → ℕ → List Check
 placingChecks tags limit =
     limitCheck limit
     ∷ (5, met (ltb groupMax (length tags)))
     ∷ ascendingCheck tags
+    ∷ unwiredCheck tags
     ∷ (7, met (not (isSome (leastSeed tags limit))))
     ∷ []
 

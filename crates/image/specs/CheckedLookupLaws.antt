@@ -9,7 +9,7 @@ use Prim.Native.Nat.{ℕ, zero, suc, _+_, _-_, _≤_, _<_}
 use native.Mathlib.Omega.{arith}
 use lib.Dec.{eqb, leb, ltb}
 use borrow.Author.Tests.{ltb-true, ltb-false, lt-ltb, le-ltb, le-leb, eqb-true, eqb-false, eq-eqb, not-false}
-use Rattle.refusal.specs.Limits.{tagsMax}
+use Rattle.refusal.specs.Limits.{tagsMax, unwired}
 use Rattle.lists.specs.BoolLaws.{neither-of-or, either-of-or}
 use Rattle.refusal.specs.Outcome.{Outcome, answered}
 use Rattle.lists.specs.First.{first, metAt, isSome}
@@ -22,10 +22,11 @@ use Rattle.text.specs.Line.{lineAt, imageHeader}
 use Rattle.text.specs.LineLaws.{image-header-only}
 use Rattle.image.specs.View.{View, viewOf, countIn, groupsIn, startIn, seedIn, endIn, slotLineIn, slotIn, faulty, candidateIn}
 use Rattle.image.specs.Holds.{HoldsTag, SlotHolds}
-use Rattle.image.specs.Checking.{openingChecks, malformedIn, groupOfSlot, misplaced, repeated, numberChecks, checkingChecks}
-use Rattle.image.specs.Checking.{checkingOf}
+use Rattle.image.specs.Checking.{openingChecks, malformedIn, groupOfSlot, holdsUnwired, misplaced, repeated, numberChecks}
+use Rattle.image.specs.Checking.{checkingChecks, checkingOf}
 use Rattle.image.specs.Lookup.{Found, number, unknown, groupChecks, lookupChecks, atSlot, lookupInGroup, lookupOf}
 use Rattle.image.specs.LinesRead.{ownGroup, ownSlot}
+use Rattle.image.specs.UnwiredLaws.{by-wired, lookup-unwired, lookup-wired}
 use Rattle.image.specs.Fair.{LiesIn, AllFair}
 use Rattle.image.specs.FaultLaws.{fair-of-faulty, end-most, groupOfSlot-lies}
 
@@ -34,6 +35,7 @@ pub record Sound (v : View) : Type 0 where
   pub opens : Pass (openingChecks v)
   pub group-lines : (g : ℕ) → g < groupsIn v → isSome (v .groupAt (suc g)) ≡ true
   pub slot-lines : (j : ℕ) → j < countIn v → isSome (v .slotAt (slotLineIn v j)) ≡ true
+  pub wired : (j : ℕ) → j < countIn v → holdsUnwired v j ≡ false
   pub not-faulty : (g : ℕ) → g < groupsIn v → faulty g (startIn v g) (endIn v g) ≡ false
   pub placed : (j : ℕ) → j < countIn v → misplaced v j ≡ false
   pub once : (j : ℕ) → j < countIn v → repeated v j ≡ false
@@ -51,6 +53,7 @@ sound-of-pass v passes =
           let e : 1 + groupsIn v + j ≡ suc (groupsIn v + j) = omega arith in
           rw e (not-false (isSome (v .slotAt (suc (groupsIn v + j))))
           (rw (le-ltb (groupsIn v + j) (groupsIn v) past) at (well (suc (groupsIn v + j)) (omega arith))));
+      wired = first-none (holdsUnwired v) (countIn v) (passed (numberChecks v) numbers 17);
       not-faulty = first-none (λ g. faulty g (startIn v g) (endIn v g)) (groupsIn v) (passed (numberChecks v) numbers 13);
       placed = first-none (misplaced v) (countIn v) (passed (numberChecks v) numbers 14);
       once = first-none (repeated v) (countIn v) (passed (numberChecks v) numbers 15);
@@ -67,6 +70,7 @@ unfolding checkingChecks numberChecks malformedIn slotLineIn
 pass-of-sound v s =
     pass-append (openingChecks v) _ (s .opens)
     (first-out (malformedIn v) (1 + groupsIn v + countIn v) well
+    then first-out (holdsUnwired v) (countIn v) (s .wired)
     then first-out (λ g. faulty g (startIn v g) (endIn v g)) (groupsIn v) (s .not-faulty)
     then first-out (misplaced v) (countIn v) (s .placed)
     then first-out (repeated v) (countIn v) (s .once)
@@ -260,19 +264,43 @@ count-most image = go (imageHeader (lineAt 0 image)) refl
     go none e = omega arith
     go (some (n, b)) e = (image-header-only n b (lineAt 0 image) e) .1
 
+-- What an image that is accepted is, and it has a group.
+accepted-sound : (image : List ℕ) {a : ℕ} → checkingOf image ≡ answered a → Sound (viewOf image) × (0 < groupsIn (viewOf image))
+unfolding checkingOf
+accepted-sound image accepted =
+    let sound = sound-of-pass (viewOf image) ((inOrder-answered (checkingChecks (viewOf image)) (answered 0) accepted) .0) in
+    (sound, groups-some image (opens-header (viewOf image) (sound .opens)))
+
+-- No slot of a sound image holds 0.
+sound-wired : (v : View) → Sound v → (j : ℕ) → HoldsTag v j unwired → ⊥
+unfolding holdsUnwired
+sound-wired v sound j h =
+    true≢false (sym (eq-eqb (slotIn v j) unwired (slotIn-reads v j (h .tag))) ∙ sound .wired j (h .slot))
+
+-- "Tag 0 belongs to nobody": no image that holds it is accepted.
+pub checked-wired : (image : List ℕ) {a : ℕ} → checkingOf image ≡ answered a → (j : ℕ) → SlotHolds image j unwired → ⊥
+checked-wired image accepted = sound-wired (viewOf image) ((accepted-sound image accepted) .0)
+
+-- Looking up 0 in a sound image answers unknown.
+pub sound-unwired : (image : List ℕ) → Sound (viewOf image) → lookupOf image unwired ≡ answered unknown
+sound-unwired image sound = lookup-unwired image ∙ inOrder-pass (openingChecks (viewOf image)) _ (sound .opens)
+
+-- Where the lookup of a tag, 0 or another, ends in a sound image.
+pub image-ends : (image : List ℕ) → Sound (viewOf image) → 0 < groupsIn (viewOf image) → (t : ℕ)
+    → Looked (viewOf image) t (lookupOf image t)
+image-ends image sound many t = by-wired t
+    (λ zero. rw zero (nowhere (sound-wired (viewOf image) sound) (sound-unwired image sound)))
+    (λ wired. rw (lookup-wired image t wired) (lookup-ends (viewOf image) sound many t))
+
 -- "Looking up a tag in a checked image gives the number that the image states for it, or 'unknown' if the image has no such tag."
 pub record LooksUp (image : List ℕ) (t : ℕ) : Type 0 where
   pub finds : (j : ℕ) → (lookupOf image t ≡ answered (number j)) ↔ SlotHolds image j t
   pub misses : (lookupOf image t ≡ answered unknown) ↔ ((j : ℕ) → SlotHolds image j t → ⊥)
 
 pub checked-lookup : (image : List ℕ) {a : ℕ} → checkingOf image ≡ answered a → (t : ℕ) → LooksUp image t
-unfolding checkingOf lookupOf
 checked-lookup image accepted t =
-    let v = viewOf image in
-    let (pass, e) = inOrder-answered (checkingChecks v) (answered 0) accepted in
-    let sound = sound-of-pass v pass in
-    let many = groups-some image (opens-header v (sound .opens)) in
-    go sound many (lookup-ends v sound many t)
+    let (sound, many) = accepted-sound image accepted in
+    go sound many (image-ends image sound many t)
   where
     go : Sound (viewOf image) → 0 < groupsIn (viewOf image) → Looked (viewOf image) t (lookupOf image t) → LooksUp image t
     go sound many (found j h e) = record {

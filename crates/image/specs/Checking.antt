@@ -4,6 +4,7 @@ use mathlib.Core.Bool.{Bool, cond, not, _&&_, _||_}
 use mathlib.Core.List.{List, [], _∷_, _++_}
 use mathlib.Core.Option.{Option·getD}
 use lib.Dec.{eqb, leb, ltb}
+use Rattle.refusal.specs.Limits.{unwired}
 use Rattle.refusal.specs.Outcome.{Outcome, answered}
 use Rattle.lists.specs.First.{first, isSome}
 use Rattle.refusal.specs.Checks.{Check, met, inOrder}
@@ -29,6 +30,10 @@ malformedIn v (suc k) = not (cond (ltb k (groupsIn v)) (isSome (v .groupAt (suc 
 unfoldable pub groupOfSlot : View → ℕ → ℕ
 groupOfSlot v j = Option·getD (first (λ g. leb (startIn v g) j && ltb j (endIn v g)) (groupsIn v)) 0
 
+-- Slot j is one "holding 0".
+unfoldable pub holdsUnwired : View → ℕ → Bool
+holdsUnwired v j = eqb (slotIn v j) unwired
+
 -- The tag of slot j "belongs to another group or has neither place there".
 unfoldable pub misplaced : View → ℕ → Bool
 misplaced v j =
@@ -40,11 +45,13 @@ misplaced v j =
 unfoldable pub repeated : View → ℕ → Bool
 repeated v j = isSome (first (λ i. leb (startIn v (groupOfSlot v j)) i && eqb (slotIn v i) (slotIn v j)) j)
 
--- "13: at the lowest faulty group … 14: at the lowest slot whose tag belongs to another group or has neither place there. 15: at
--- the lowest slot whose tag stands in a lower slot of its group." They go by the numbers that the lines state.
+-- "17 … in checking, directly after the malformed lines, at the lowest slot holding 0. 13: at the lowest faulty group … 14: at the
+-- lowest slot whose tag belongs to another group or has neither place there. 15: at the lowest slot whose tag stands in a lower slot
+-- of its group." They go by the numbers that the lines state.
 unfoldable pub numberChecks : View → List Check
 numberChecks v =
-    (13, first (λ g. faulty g (startIn v g) (endIn v g)) (groupsIn v))
+    (17, first (holdsUnwired v) (countIn v))
+    ∷ (13, first (λ g. faulty g (startIn v g) (endIn v g)) (groupsIn v))
     ∷ (14, first (misplaced v) (countIn v))
     ∷ (15, first (repeated v) (countIn v))
     ∷ []

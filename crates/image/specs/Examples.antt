@@ -12,15 +12,15 @@ use Rattle.text.specs.Field.{valueFrom, same, field}
 use Rattle.text.specs.Line.{lineAt, pairLine, tagLine, ended, bothFields, pairOf, tagOf, within, imageHeader, groupLine, slotLine}
 use Rattle.image.specs.Sheet.{imageLength}
 use Rattle.image.specs.View.{viewOf, countIn, groupsIn, startIn, seedIn, slotLineIn, slotIn, endIn, faulty, candidateIn}
-use Rattle.image.specs.Checking.{openingChecks, malformedIn, groupOfSlot, misplaced, repeated, numberChecks, checkingChecks}
-use Rattle.image.specs.Checking.{checkingOf}
+use Rattle.image.specs.Checking.{openingChecks, malformedIn, groupOfSlot, holdsUnwired, misplaced, repeated, numberChecks}
+use Rattle.image.specs.Checking.{checkingChecks, checkingOf}
 
 -- `unfolding computed` opens every definition that these compute through.
 computed : ℕ
 unfolding flatten orElse first metAt isSome met inOrder product highPart hashed groupOf multiplier placeOf leading
     figure valueFrom same field lineAt pairLine tagLine ended bothFields pairOf tagOf within imageHeader groupLine
     slotLine imageLength viewOf countIn groupsIn startIn seedIn slotLineIn slotIn endIn faulty candidateIn openingChecks
-    malformedIn groupOfSlot misplaced repeated numberChecks checkingChecks checkingOf
+    malformedIn groupOfSlot holdsUnwired misplaced repeated numberChecks checkingChecks checkingOf
 computed = 0
 
 -- One group of the tags 1 and 1 under seed 0, where both places of tag 1 are 1: slot 0 is misplaced, and slot 1 repeats its tag.
@@ -37,3 +37,18 @@ thirteen-before-fourteen = refl
 twelve-before-thirteen : checkingOf (flatten (pairLine 2 1 ∷ pairLine 1 65536 ∷ tagLine 1 ∷ tagLine 1 ∷ [])) ≡ refused 12 1
 unfolding computed
 twelve-before-thirteen = refl
+
+-- With 0 in slot 1 of the faulty group, the slot is named first,
+seventeen-before-thirteen : checkingOf (flatten (pairLine 2 1 ∷ pairLine 1 0 ∷ tagLine 1 ∷ tagLine 0 ∷ [])) ≡ refused 17 1
+unfolding computed
+seventeen-before-thirteen = refl
+
+-- with 0 in two slots the lower of them,
+seventeen-at-lowest : checkingOf (flatten (pairLine 3 1 ∷ pairLine 0 0 ∷ tagLine 1 ∷ tagLine 0 ∷ tagLine 0 ∷ [])) ≡ refused 17 1
+unfolding computed
+seventeen-at-lowest = refl
+
+-- and before a slot that holds 0 a malformed line, also one behind it: the tag 4,294,967,296 is none.
+twelve-before-seventeen : checkingOf (flatten (pairLine 2 1 ∷ pairLine 0 0 ∷ tagLine 0 ∷ tagLine 4294967296 ∷ [])) ≡ refused 12 3
+unfolding computed
+twelve-before-seventeen = refl

@@ -3,6 +3,7 @@ use Prim.Native.Nat.{ℕ, suc, _+_}
 use mathlib.Core.Bool.{cond, not, _&&_, _||_}
 use mathlib.Core.List.{List, [], _∷_, _++_}
 use lib.Dec.{eqb, ltb}
+use Rattle.refusal.specs.Limits.{unwired}
 use Rattle.refusal.specs.Outcome.{Outcome, answered}
 use Rattle.lists.specs.First.{metAt, isSome}
 use Rattle.refusal.specs.Checks.{Check, inOrder}
@@ -43,5 +44,8 @@ lookupInGroup v t g =
     (atSlot v t (candidateIn v g 1 t)
     (answered unknown))))
 
+-- "Looking up 0 answers unknown once line 0 and the length have passed"; any other tag is looked up in its group.
 unfoldable pub lookupOf : List ℕ → ℕ → Outcome Found
-lookupOf image t = let v = viewOf image in lookupInGroup v t (groupOf (groupsIn v) t)
+lookupOf image t =
+    let v = viewOf image in
+    cond (eqb t unwired) (inOrder (openingChecks v) (answered unknown)) (lookupInGroup v t (groupOf (groupsIn v) t))

@@ -10,10 +10,11 @@ use lib.Dec.{eqb, ltb}
 use lib.ListN.{length}
 use borrow.Author.Tests.{ltb-true, ltb-false, eqb-true, eqb-false, not-false}
 use Rattle.lists.specs.BoolLaws.{neither-of-or}
+use Rattle.refusal.specs.Limits.{unwired}
 use Rattle.refusal.specs.Outcome.{Outcome, answered}
 use Rattle.lists.specs.First.{metAt, isSome}
 use Rattle.lists.specs.FirstLaws.{some-of-isSome}
-use Rattle.refusal.specs.Checks.{inOrder, Pass}
+use Rattle.refusal.specs.Checks.{Check, inOrder, Pass}
 use Rattle.refusal.specs.ChecksLaws.{false-of-metAt, pass-append, agree-same, inOrder-agree, inOrder-append, inOrder-answered}
 use Rattle.hash.specs.Formula.{groupOf}
 use Rattle.hash.specs.FormulaLaws.{place-below}
@@ -24,6 +25,7 @@ use Rattle.image.specs.Lookup.{Found, number, unknown, groupChecks, look
 use Rattle.image.specs.Fair.{Fair}
 use Rattle.image.specs.FaultLaws.{fair-of-faulty}
 use Rattle.image.specs.LinesRead.{LinesRead, ownGroup, ownSlot}
+use Rattle.image.specs.UnwiredLaws.{by-wired, lookup-unwired, lookup-wired, unwired-unanswered, opening-agrees}
 use Rattle.image.specs.Holds.{HoldsTag, SlotHolds}
 
 and-cond : (a b : Bool) → (a && b) ≡ cond a b false
@@ -36,8 +38,8 @@ record AgreeAt (v w : View) (k : ℕ) : Type 0 where
   group : v .groupAt k ≡ w .groupAt k
   slot : v .slotAt k ≡ w .slotAt k
 
--- Two views of one length that agree on the lines that a lookup in the first comes to read.
-module _ (v w : View) (t : ℕ) (same-size : v .size ≡ w .size) (read : LinesRead v t (AgreeAt v w)) where
+-- Two views of one length that agree on the lines that a lookup in the first comes to read, for a tag that is not 0.
+module _ (v w : View) (t : ℕ) (wired : t ≡ unwired → ⊥) (same-size : v .size ≡ w .size) (read : LinesRead v t (AgreeAt v w)) where
   same-header : v .header ≡ w .header
   same-header = read .header .header refl
 
@@ -50,8 +52,7 @@ module _ (v w : View) (t : ℕ) (same-size : v .size ≡ w .size) (read : LinesR
   same-count = rw same-header
 
   same-opening : openingChecks v ≡ openingChecks w
-  unfolding openingChecks
-  same-opening = cc (same-size, same-header, same-groups, same-count)
+  same-opening = opening-agrees v w same-size same-header
 
   -- The tag's two slots looked at.
   abbrev slotsOf : View → Outcome Found
@@ -60,7 +61,7 @@ module _ (v w : View) (t : ℕ) (same-size : v .size ≡ w .size) (read : LinesR
   -- The image opens: the tag's group line is read,
   module _ (opens : Pass (openingChecks v)) where
     same-own : v .groupAt (suc (ownGroup v t)) ≡ w .groupAt (suc (ownGroup w t))
-    same-own = read .own opens .group ∙ rw same-groups
+    same-own = read .own wired opens .group ∙ rw same-groups
 
     same-start : startIn v (ownGroup v t) ≡ startIn w (ownGroup w t)
     unfolding startIn
@@ -82,7 +83,7 @@ module _ (v w : View) (t : ℕ) (same-size : v .size ≡ w .size) (read : LinesR
           go : (b : Bool) → ltb (suc (ownGroup v t)) (groupsIn v) ≡ b
               → cond (ltb (suc (ownGroup v t)) (groupsIn v)) (f (v .groupAt (suc (suc (ownGroup v t))))) d
               ≡ cond (ltb (suc (ownGroup v t)) (groupsIn v)) (f (w .groupAt (suc (suc (ownGroup v t))))) d
-          go true e = rw (read .next opens well (ltb-true (suc (ownGroup v t)) (groupsIn v) e) .group)
+          go true e = rw (read .next wired opens well (ltb-true (suc (ownGroup v t)) (groupsIn v) e) .group)
           go false e = rw e
 
       same-end : endIn v (ownGroup v t) ≡ endIn w (ownGroup w t)
@@ -141,8 +142,8 @@ module _ (v w : View) (t : ℕ) (same-size : v .size ≡ w .size) (read : LinesR
           go true e = rw e
           go false e =
               let filled = eqb-false (startIn v (ownGroup v t)) (endIn v (ownGroup v t)) e in
-              rw e (slot-agrees 0 _ _ (read .first-slot passes filled)
-              (λ u reads other. slot-agrees 1 _ _ (read .second-slot passes filled u reads other) (λ _ _ _. refl)))
+              rw e (slot-agrees 0 _ _ (read .first-slot wired passes filled)
+              (λ u reads other. slot-agrees 1 _ _ (read .second-slot wired passes filled u reads other) (λ _ _ _. refl)))
 
   lookup-agrees : lookupInGroup v t (ownGroup v t) ≡ lookupInGroup w t (ownGroup w t)
   unfolding lookupInGroup lookupChecks groupChecks
@@ -172,17 +173,35 @@ module _ (v w : View) (t : ℕ) (same-size : v .size ≡ w .size) (read : LinesR
 -- "It depends on the image's length, line 0, those two group lines, those two slot lines and the tag, and on no other byte."
 pub lookup-depends : (p q : List ℕ) (t : ℕ) → length p ≡ length q → LinesRead (viewOf p) t (λ k. lineAt k p ≡ lineAt k q)
     → lookupOf p t ≡ lookupOf q t
-unfolding lookupOf viewOf
-lookup-depends p q t size read = lookup-agrees (viewOf p) (viewOf q) t size record {
-  header = agree 0 (read .header);
-  own = λ opens. agree _ (read .own opens);
-  next = λ opens well more. agree _ (read .next opens well more);
-  first-slot = λ passes filled. agree _ (read .first-slot passes filled);
-  second-slot = λ passes filled u reads other. agree _ (read .second-slot passes filled u reads other);
-}
+unfolding viewOf
+lookup-depends p q t size read = by-wired t nobody (λ wired. lookup-wired p t wired ∙ in-group wired ∙ sym (lookup-wired q t wired))
   where
     agree : (k : ℕ) → lineAt k p ≡ lineAt k q → AgreeAt (viewOf p) (viewOf q) k
     agree k same = record { header = λ first. ap imageHeader (rw first at same); group = ap groupLine same; slot = ap slotLine same }
+
+    nobody : t ≡ unwired → lookupOf p t ≡ lookupOf q t
+    nobody zero =
+        let opening = opening-agrees (viewOf p) (viewOf q) size (ap imageHeader (read .header)) in
+        rw zero (lookup-unwired p ∙ ap (λ (checks : List Check). inOrder checks (answered unknown)) opening ∙ sym (lookup-unwired q))
+
+    in-group : (t ≡ unwired → ⊥) → lookupInGroup (viewOf p) t (ownGroup (viewOf p) t) ≡ lookupInGroup (viewOf q) t (ownGroup (viewOf q) t)
+    in-group wired = lookup-agrees (viewOf p) (viewOf q) t wired size record {
+      header = agree 0 (read .header);
+      own = λ wired opens. agree _ (read .own wired opens);
+      next = λ wired opens well more. agree _ (read .next wired opens well more);
+      first-slot = λ wired passes filled. agree _ (read .first-slot wired passes filled);
+      second-slot = λ wired passes filled u reads other. agree _ (read .second-slot wired passes filled u reads other);
+    }
+
+-- For tag 0 it depends on the length and line 0 alone: no group line and no slot line is read.
+pub unwired-depends : (p q : List ℕ) → length p ≡ length q → lineAt 0 p ≡ lineAt 0 q → lookupOf p unwired ≡ lookupOf q unwired
+unwired-depends p q size first = lookup-depends p q unwired size record {
+  header = first;
+  own = λ wired. absurd (wired refl);
+  next = λ wired. absurd (wired refl);
+  first-slot = λ wired. absurd (wired refl);
+  second-slot = λ wired. absurd (wired refl);
+}
 
 -- A slot looked at answers j only where it is slot j and holds the tag, or where what comes next answers j.
 slot-answers : (v : View) (t i j : ℕ) (next : Outcome Found) → i < countIn v → atSlot v t i next ≡ answered (number j)
@@ -236,5 +255,6 @@ view-any v t j e =
 
 -- For any bytes, checked or not: a number that lookup answers is below N, and that slot holds the tag.
 pub lookup-any : (image : List ℕ) (t j : ℕ) → lookupOf image t ≡ answered (number j) → SlotHolds image j t
-unfolding lookupOf
-lookup-any image t j e = view-any (viewOf image) t j e
+lookup-any image t j e = by-wired t
+    (λ zero. absurd (unwired-unanswered image j (rw zero at e)))
+    (λ wired. view-any (viewOf image) t j (sym (lookup-wired image t wired) ∙ e))

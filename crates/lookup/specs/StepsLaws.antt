@@ -7,6 +7,7 @@ use Prim.Native.Nat.{ℕ, zero, suc, _+_, _-_, _≤_, _<_}
 use native.Mathlib.Omega.{arith}
 use lib.Dec.{ltb}
 use borrow.Author.Tests.{eq-eqb, ne-eqb, lt-ltb, le-ltb}
+use Rattle.refusal.specs.Limits.{unwired}
 use Rattle.refusal.specs.Outcome.{Outcome, answered, refused}
 use Rattle.lists.specs.First.{metAt, isSome}
 use Rattle.refusal.specs.Checks.{inOrder}
@@ -16,6 +17,7 @@ use Rattle.text.specs.Line.{lineAt, groupLine, slotLine}
 use Rattle.image.specs.View.{View, viewOf, countIn, groupsIn, startIn, seedIn, endIn, slotLineIn, slotIn, faulty, candidateIn}
 use Rattle.image.specs.Checking.{openingChecks}
 use Rattle.image.specs.Lookup.{Found, number, unknown, groupChecks, lookupChecks, atSlot, lookupInGroup, lookupOf}
+use Rattle.image.specs.UnwiredLaws.{by-wired, lookup-unwired, lookup-wired}
 use Rattle.opening.specs.Opening.{openingOf, Opens}
 use Rattle.opening.specs.OpeningLaws.{opening-refused, opening-passes, opening-answered}
 use Rattle.lookup.specs.Steps.{endOf, slotsOf, slotsFrom, groupOutcome}
@@ -148,15 +150,21 @@ module _ (image : List ℕ) where
         group-slots fair within =
             rw (own-is, next-is (some end) ends, start-is, end-is, seed-is, fair, le-ltb (countIn (viewOf image)) end within)
 
-  -- The opening, and what stands behind it.
+  -- The opening, and what stands behind it: nothing for tag 0, and the group of any other.
   pub lookup-unopened : (t : ℕ) {reason place : ℕ} → openingOf image ≡ refused reason place → lookupOf image t ≡ refused reason place
-  unfolding lookupOf lookupInGroup lookupChecks
-  lookup-unopened t e = inOrder-append (openingChecks (viewOf image)) _ _ ∙ opening-refused image e _
+  unfolding lookupInGroup lookupChecks
+  lookup-unopened t e = by-wired t
+      (λ zero. rw zero (lookup-unwired image ∙ opening-refused image e _))
+      (λ wired. lookup-wired image t wired ∙ inOrder-append (openingChecks (viewOf image)) _ _ ∙ opening-refused image e _)
 
-  pub lookup-opened : {count groups : ℕ} → openingOf image ≡ answered (count, groups) → (t : ℕ)
+  pub lookup-nobody : {counts : ℕ × ℕ} → openingOf image ≡ answered counts → lookupOf image unwired ≡ answered unknown
+  lookup-nobody e = lookup-unwired image ∙ opening-passes image e _
+
+  pub lookup-opened : {count groups : ℕ} → openingOf image ≡ answered (count, groups) → (t : ℕ) → (t ≡ unwired → ⊥)
       → lookupOf image t ≡ groupOutcome (viewOf image) t (groupOf groups t)
-  unfolding lookupOf lookupInGroup lookupChecks groupOutcome slotsOf candidateIn
-  lookup-opened e t =
-      inOrder-append (openingChecks (viewOf image)) _ _
+  unfolding lookupInGroup lookupChecks groupOutcome slotsOf candidateIn
+  lookup-opened e t wired =
+      lookup-wired image t wired
+      ∙ inOrder-append (openingChecks (viewOf image)) _ _
       ∙ opening-passes image e _
       ∙ ap (λ (b : ℕ). groupOutcome (viewOf image) t (groupOf b t)) ((opening-answered image e) .groups-is)

@@ -2,6 +2,7 @@
 use opening::Opened;
 use refusal::Reason;
 use refusal::Refusal;
+use refusal::UNWIRED;
 use text::LINE_LENGTH;
 use text::Pair;
 use text::Tag;
@@ -30,13 +31,18 @@ pub enum GroupEnd {
     Malformed,
 }
 
-// The operation "lookup".
+// The operation "lookup". Tag 0 belongs to nobody: no group line and no slot line is read for it.
 pub fn lookup(image: &[u8], tag: u32) -> LookupAnswer
     ensures answer { λ r. ⌜ lookupOutcome r ≡ lookupOf (now (image .entry)) tag ⌝ }
     ensures checked { λ r. ⌜ Condition2 (now (image .entry)) tag (lookupOutcome r) ⌝ }
 {
     match opening::open(image) {
-        Opened::Counts(count, groups) => in_group(image, count, groups, tag),
+        Opened::Counts(count, groups) => {
+            if tag == UNWIRED {
+                return LookupAnswer::Unknown;
+            }
+            in_group(image, count, groups, tag)
+        }
         Opened::Refused(refusal) => LookupAnswer::Refused(refusal),
     }
 }

@@ -11,6 +11,7 @@ use Rattle.lists.specs.First.{first, isSome}
 use Rattle.refusal.specs.Checks.{Check, met, inOrder}
 use Rattle.group.specs.Group.{leastSeed, taken}
 use Rattle.group.specs.Ascending.{limitCheck, ascendingCheck}
+use Rattle.group.specs.Unwired.{unwiredCheck}
 use Rattle.image.specs.Sheet.{Sheet, bytesOf, imageLength}
 use Rattle.numbering.specs.Members.{members, startOf}
 use Rattle.numbering.specs.Number.{numberOf, tagNumbered}
@@ -44,13 +45,15 @@ abbrev pub seedless : ℕ → List ℕ → ℕ → ℕ → Bool
 seedless groups tags limit g = not (isSome (leastSeed (members groups g tags) limit))
 
 -- "8: B not 1 to 512. 4 as above. 5: more than 4,096 tags. 6 as above. 9: buffer shorter than the image. 10: a group has more than
--- 24 tags, at the lowest such group." The buffer has `room` bytes. "The earlier checks are those that building makes before 7."
+-- 24 tags, at the lowest such group." "17 if the first tag is 0, directly after 6." The buffer has `room` bytes. "The earlier checks
+-- are those that building makes before 7."
 unfoldable pub earlierChecks : List ℕ → ℕ → ℕ → ℕ → List Check
 earlierChecks tags groups limit room =
     (8, met (outside 1 groupsMax groups))
     ∷ limitCheck limit
     ∷ (5, met (ltb tagsMax (length tags)))
     ∷ ascendingCheck tags
+    ∷ unwiredCheck tags
     ∷ (9, met (ltb room (imageLength groups (length tags))))
     ∷ (10, first (tooLarge groups tags) groups)
     ∷ []

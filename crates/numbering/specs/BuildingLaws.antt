@@ -18,7 +18,7 @@ use Rattle.refusal.specs.ChecksLaws.{met-false, false-of-met, metBy, passed, ch
 use Rattle.refusal.specs.ChecksLaws.{inOrder-pass, inOrder-but, inOrder-answered, inOrder-append}
 use Rattle.group.specs.Group.{leastSeed}
 use Rattle.group.specs.GroupLaws.{LeastSeed, leastSeed-some}
-use Rattle.group.specs.Ascending.{limitCheck, ascendingCheck, Ascending}
+use Rattle.group.specs.Ascending.{Ascending}
 use Rattle.group.specs.AscendingLaws.{ascending-distinct}
 use Rattle.image.specs.Sheet.{imageLength, longestImage}
 use Rattle.image.specs.SheetLaws.{bytes-length, image-longest}
@@ -101,7 +101,7 @@ answered-size tags groups limit room e =
 -- It is that of an image of at most 4,096 tags in at most 512 groups.
 pub answered-most : (tags : List ℕ) (groups limit room : ℕ) {size : ℕ} → buildingOf tags groups limit room ≡ answered size
     → size ≤ longestImage
-unfolding buildingOf buildingChecks earlierChecks limitCheck ascendingCheck
+unfolding buildingOf buildingChecks earlierChecks
 answered-most tags groups limit room e =
     let checks = buildingChecks tags groups limit room in
     let (passes, told) = inOrder-answered checks (answered (imageLength groups (length tags))) e in
@@ -112,7 +112,7 @@ answered-most tags groups limit room e =
 -- In every buffer that is long enough for the longest image building comes to the same: 9 never comes.
 pub building-roomy : (tags : List ℕ) (groups limit room : ℕ) → longestImage ≤ room
     → buildingOf tags groups limit room ≡ buildingOf tags groups limit longestImage
-unfolding buildingOf buildingChecks earlierChecks limitCheck ascendingCheck
+unfolding buildingOf buildingChecks earlierChecks
 building-roomy tags groups limit room enough =
     inOrder-but front 9 _ _
     (λ passes. met-false (fits passes room enough) ∙ sym (met-false (fits passes longestImage (omega arith))))

@@ -10,13 +10,14 @@ use Rattle.refusal.specs.Outcome.{refused}
 use Rattle.lists.specs.First.{first, metAt}
 use Rattle.lists.specs.UpTo.{upTo}
 use Rattle.refusal.specs.Checks.{met, inOrder}
-use Rattle.group.specs.Ascending.{limitCheck, notAbove, ascendingCheck}
+use Rattle.group.specs.Ascending.{notAbove}
+use Rattle.group.specs.Unwired.{startsUnwired}
 use Rattle.image.specs.Sheet.{imageLength}
 use Rattle.numbering.specs.Building.{earlierChecks, buildingChecks, buildingOf}
 
 -- `unfolding computed` opens every definition that these compute through.
 computed : ℕ
-unfolding orElse outside first metAt upTo met inOrder limitCheck notAbove ascendingCheck imageLength
+unfolding orElse outside first metAt upTo met inOrder notAbove startsUnwired imageLength
     earlierChecks buildingChecks buildingOf
 computed = 0
 
@@ -36,11 +37,15 @@ five-before-six : buildingOf tooMany 1 1 0 ≡ refused 5 0
 unfolding computed
 five-before-six = refl
 
-six-before-nine : buildingOf (5 ∷ 5 ∷ []) 1 1 0 ≡ refused 6 1
+six-before-seventeen : buildingOf (0 ∷ 0 ∷ []) 1 1 0 ≡ refused 6 1
 unfolding computed
-six-before-nine = refl
+six-before-seventeen = refl
 
--- The tags 0 to 24 in one group, which are too many for it.
-nine-before-ten : buildingOf (upTo (suc groupMax) (λ t. t)) 1 1 0 ≡ refused 9 0
+seventeen-before-nine : buildingOf (0 ∷ 1 ∷ []) 1 1 0 ≡ refused 17 0
+unfolding computed
+seventeen-before-nine = refl
+
+-- The tags 1 to 25 in one group, which are too many for it.
+nine-before-ten : buildingOf (upTo (suc groupMax) suc) 1 1 0 ≡ refused 9 0
 unfolding computed
 nine-before-ten = refl

@@ -10,3 +10,4 @@ pub mod Building
 pub mod BuildingLaws
 pub mod Examples
 pub mod FromText
+pub mod UnwiredLaws

@@ -133,6 +133,12 @@ pub members-ascending : (groups g : ℕ) (tags : List ℕ) → Ascending tags �
 unfolding members
 members-ascending groups g tags up = select-ascending (λ t. eqb (groupOf groups t) g) tags up
 
+-- A tag that is not listed is in no group.
+pub members-absent : (groups g : ℕ) (tags : List ℕ) (t : ℕ) → occurs t tags ≡ false → occurs t (members groups g tags) ≡ false
+unfolding members
+members-absent groups g tags t absent =
+    not-eq-not .0 (λ there. occurs-not t tags ((occurs-select (λ u. eqb (groupOf groups u) g) tags t there) .0) absent)
+
 -- Group 0 starts at 0, the groups follow one another, and after the last one N is reached.
 pub start-zero : (groups : ℕ) (tags : List ℕ) → startOf groups 0 tags ≡ 0
 unfolding startOf

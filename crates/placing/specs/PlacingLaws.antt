@@ -13,7 +13,6 @@ use Rattle.refusal.specs.Checks.{Pass}
 use Rattle.refusal.specs.ChecksLaws.{met-true, met-false, false-of-met, metBy, passed, checksBefore, passed-on, met-first, inOrder-pass}
 use Rattle.filling.specs.Word.{wordOf}
 use Rattle.group.specs.Group.{leastSeed, taken}
-use Rattle.group.specs.Ascending.{limitCheck, ascendingCheck}
 use Rattle.group.specs.Placing.{placingChecks, placementOf, placingOf}
 
 -- A check that is met where those before it pass is placing's refusal.
@@ -28,19 +27,19 @@ pub record Placeable (tags : List ℕ) (limit : ℕ) : Type 0 where
 
 module _ {tags : List ℕ} {limit : ℕ} (p : Placeable tags limit) where
   pub limit-legal : (1 ≤ limit) × (limit ≤ limitMax)
-  unfolding placingChecks limitCheck ascendingCheck
+  unfolding placingChecks
   limit-legal = inside 1 limitMax limit (false-of-met _ (passed (checksBefore 7 (placingChecks tags limit)) (p .passes) 4))
 
   pub few : length tags ≤ groupMax
-  unfolding placingChecks limitCheck ascendingCheck
+  unfolding placingChecks
   few = ltb-false groupMax (length tags) (false-of-met _ (passed (checksBefore 7 (placingChecks tags limit)) (p .passes) 5))
 
   pub placing-unseeded : leastSeed tags limit ≡ none → placingOf tags limit ≡ refused 7 0
-  unfolding placingChecks limitCheck ascendingCheck isSome
+  unfolding placingChecks isSome
   placing-unseeded e = placing-refused tags limit 7 (p .passes) (met-true (rw e))
 
   pub placing-seeded : {s : ℕ} → leastSeed tags limit ≡ some s
       → placingOf tags limit ≡ answered (record { seed = s; word = wordOf (taken tags s) })
-  unfolding placingOf placingChecks limitCheck ascendingCheck isSome placementOf
+  unfolding placingOf placingChecks isSome placementOf
   placing-seeded e =
       inOrder-pass (placingChecks tags limit) _ (passed-on (placingChecks tags limit) 7 0 refl (p .passes) (met-false (rw e))) ∙ rw e

@@ -38,6 +38,9 @@ pub fn place_group(tags: &[u32], limit: u32) -> PlacingAnswer
     if let First::At(i) = group::first_not_above(tags) {
         return refuse(Reason::NotAscending, i);
     }
+    if group::starts_unwired(tags) {
+        return refuse(Reason::UnwiredTag, 0);
+    }
     let mut places = [0u32; places::PLACE_CELLS];
     let Found::At(seed) = seeds::least_seed(tags, limit, &mut places) else {
         return refuse(Reason::NoSeed, 0);

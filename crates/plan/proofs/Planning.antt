@@ -47,7 +47,8 @@ module _ {groups limit : ℕ} {ordered ends seeds₀ words₀ seeds words : List
   unfolding unseeded isSome partStart partSeed partWord
   planned-turn {placement} e seed-cell word-cell =
       let own = rw (part-is (p .parts) g (done .start-is)) at e in
-      let (found, placed) = placed-seed (partOf ordered ends g) limit (p .limit-legal) (p .few g lt) (p .ascending g lt) own in
+      let part = partOf ordered ends g in
+      let (found, placed) = placed-seed part limit (p .limit-legal) (p .few g lt) (p .ascending g lt) (p .wired g lt) own in
       record {
         searched = searched-turn (unseeded ordered ends limit) 0 groups g (done .searched) lt (rw found);
         start-is = rw (add-one g);
@@ -65,7 +66,8 @@ module _ {groups limit : ℕ} {ordered ends seeds₀ words₀ seeds words : List
   unfolding unseeded isSome
   planned-without e =
       let own = rw (part-is (p .parts) g (done .start-is)) at e in
-      let nothing = refused-seedless (partOf ordered ends g) limit (p .limit-legal) (p .few g lt) (p .ascending g lt) own in
+      let part = partOf ordered ends g in
+      let nothing = refused-seedless part limit (p .limit-legal) (p .few g lt) (p .ascending g lt) (p .wired g lt) own in
       searched-found (unseeded ordered ends limit) 0 groups g (done .searched) lt (rw nothing)
 
 -- When all groups are planned, each has its seed and its word.

@@ -8,6 +8,7 @@ use Rattle.lists.specs.First.{isSome}
 use Rattle.group.specs.Group.{leastSeed}
 use Rattle.group.specs.Placing.{placementOf}
 use Rattle.group.specs.Ascending.{Ascending}
+use Rattle.group.specs.Unwired.{FirstWired}
 use Rattle.lists.specs.UpTo.{upTo}
 use Rattle.numbering.specs.Parts.{partOf, Parts}
 
@@ -33,9 +34,10 @@ seedsPlanned ordered ends limit = cellsPlanned (partSeed ordered ends limit)
 abbrev pub wordsPlanned : List ℕ → List ℕ → ℕ → ℕ → List ℕ → List ℕ
 wordsPlanned ordered ends limit = cellsPlanned (partWord ordered ends limit)
 
--- What planning is given: a legal limit, and parts of at most 24 tags in ascending order.
+-- What planning is given: a legal limit, and parts of at most 24 tags in ascending order, none of them tag 0.
 pub record Plannable (groups : ℕ) (ordered ends : List ℕ) (limit : ℕ) : Type 0 where
   pub parts : Parts groups ordered ends
   pub limit-legal : (1 ≤ limit) × (limit ≤ limitMax)
   pub few : (g : ℕ) → g < groups → length (partOf ordered ends g) ≤ groupMax
   pub ascending : (g : ℕ) → g < groups → Ascending (partOf ordered ends g)
+  pub wired : (g : ℕ) → g < groups → FirstWired (partOf ordered ends g)

@@ -14,22 +14,26 @@ use Rattle.refusal.specs.Outcome.{answered, refused}
 use Rattle.group.specs.Group.{leastSeed}
 use Rattle.refusal.specs.ChecksLaws.{_then_, met-false}
 use Rattle.group.specs.Placing.{Placement, placingChecks, placementOf, placingOf}
-use Rattle.group.specs.Ascending.{limitCheck, ascendingCheck, Ascending}
+use Rattle.group.specs.Ascending.{Ascending}
 use Rattle.group.specs.AscendingLaws.{check-of-ascending}
+use Rattle.group.specs.Unwired.{FirstWired}
+use Rattle.group.specs.UnwiredLaws.{check-of-wired}
 use Rattle.lists.specs.UpTo.{upTo}
 use Rattle.lists.specs.UpToLaws.{upTo-length, upTo-at, upTo-more}
 use Rattle.placing.specs.PlacingLaws.{Placeable, placing-unseeded, placing-seeded}
 use Rattle.plan.specs.Plan.{cellsPlanned}
 
 -- Placing a part that planning is given is refused for want of a seed only.
-module _ (part : List ℕ) (limit : ℕ) (legal : (1 ≤ limit) × (limit ≤ limitMax)) (few : length part ≤ groupMax) (up : Ascending part) where
+module _ (part : List ℕ) (limit : ℕ) (legal : (1 ≤ limit) × (limit ≤ limitMax)) (few : length part ≤ groupMax) (up : Ascending part)
+    (wired : FirstWired part) where
   placeable : Placeable part limit
-  unfolding placingChecks limitCheck ascendingCheck
+  unfolding placingChecks
   placeable = record {
     passes =
         met-false (outside-not 1 limitMax limit (legal .0) (legal .1))
         then met-false (le-ltb groupMax (length part) few)
         then check-of-ascending part up
+        then check-of-wired part wired
         then tt;
   }
 

@@ -1,4 +1,4 @@
--- The ranges of document 01, each named once. Assumes nothing.
+-- The ranges of document 01 and the tag that document 02 reserves, each named once. Assumes nothing.
 use Prim.Native.Nat.{ℕ}
 use mathlib.Core.Bool.{Bool, not, _&&_}
 use lib.Dec.{leb}
@@ -30,6 +30,10 @@ groupMax = 24
 -- "Input above 65,527 bytes is refused with 5 at place 0, unexamined": the printer's input and the C boundary's
 abbrev pub textMax : ℕ
 textMax = 65527
+
+-- "Plant numbering now reserves tag 0 for an unwired point, and a gauge that reports it has no figure": document 02, §1
+abbrev pub unwired : ℕ
+unwired = 0
 
 -- x "is not" low to high
 unfoldable pub outside : ℕ → ℕ → ℕ → Bool

@@ -2,12 +2,13 @@
 use Prim.Native.Nat.{ℕ}
 use Rattle.refusal.specs.Outcome.{Outcome, refused}
 use Rattle.refusal.specs.declared.Reason.{Reason}
-use Rattle.refusal.specs.declared.Reason.the-variants.{SizeOutOfRange, SeedOutOfRange, ChoiceOutOfRange, LimitOutOfRange, TooManyTags}
-use Rattle.refusal.specs.declared.Reason.the-variants.{NotAscending, NoSeed, GroupCountOutOfRange, BufferTooShort, GroupTooLarge}
-use Rattle.refusal.specs.declared.Reason.the-variants.{WrongLength, MalformedLine, FaultyGroup, WrongSlot, RepeatedTag, MalformedList}
+use Rattle.refusal.specs.declared.Reason.the-variants.{SizeOutOfRange, SeedOutOfRange, ChoiceOutOfRange, LimitOutOfRange}
+use Rattle.refusal.specs.declared.Reason.the-variants.{TooManyTags, NotAscending, NoSeed, GroupCountOutOfRange, BufferTooShort}
+use Rattle.refusal.specs.declared.Reason.the-variants.{GroupTooLarge, WrongLength, MalformedLine, FaultyGroup, WrongSlot}
+use Rattle.refusal.specs.declared.Reason.the-variants.{RepeatedTag, MalformedList, UnwiredTag}
 use Rattle.refusal.specs.declared.Refusal.{Refusal}
 
--- "Refusal 1: n is not 1 to 24. 2: seed above 65,535. …": document 01, "Operations and what stops each".
+-- "Refusal 1: n is not 1 to 24. 2: seed above 65,535. …": document 01, "Operations and what stops each"; 17: document 02, §1.
 abbrev pub reasonNumber : Reason → ℕ
 reasonNumber SizeOutOfRange = 1
 reasonNumber SeedOutOfRange = 2
@@ -25,6 +26,7 @@ reasonNumber FaultyGroup = 13
 reasonNumber WrongSlot = 14
 reasonNumber RepeatedTag = 15
 reasonNumber MalformedList = 16
+reasonNumber UnwiredTag = 17
 
 -- A refused operation's outcome, whatever it would have answered.
 abbrev pub refusalOf : {A : Type 0} → Refusal → Outcome A

@@ -19,6 +19,9 @@ pub const SEED_MAX: u32 = 65535;
 
 pub const TEXT_MAX: usize = 65527;
 
+// The tag that plant numbering reserves for an unwired point (document 02, §1): it belongs to nobody.
+pub const UNWIRED: u32 = 0;
+
 // How many cells an array has: one for each tag of a list, one for each group, one for each tag of a group.
 pub const TAG_CELLS: usize = TAGS_MAX;
 
@@ -26,7 +29,7 @@ pub const GROUP_CELLS: usize = GROUPS_MAX as usize;
 
 pub const MEMBER_CELLS: usize = GROUP_MAX as usize;
 
-// Why an operation refuses: what is the matter with its input. Document 01 numbers them 1 to 16, in this order.
+// Why an operation refuses: what is the matter with its input. Documents 01 and 02 number them 1 to 17, in this order.
 pub enum Reason {
     SizeOutOfRange,
     SeedOutOfRange,
@@ -45,6 +48,8 @@ pub enum Reason {
     WrongSlot,
     RepeatedTag,
     MalformedList,
+    // Tag 0 where a tank's tag is asked for.
+    UnwiredTag,
 }
 
 // A refusal: the reason, and the line, index, group or slot that it names, counted from 0; 0 where it names none.
@@ -80,6 +85,7 @@ pub fn reason_number(reason: Reason) -> u32
         Reason::WrongSlot => 14,
         Reason::RepeatedTag => 15,
         Reason::MalformedList => 16,
+        Reason::UnwiredTag => 17,
     }
 }
 

@@ -7,12 +7,11 @@ use Prim.Native.Nat.{ℕ, _+_, _*_, _/_, _%_, _≤_, _<_}
 use native.Mathlib.Omega.{arith}
 use lib.Dec.{eqb}
 use borrow.Author.Tests.{lt-ltb, le-ltb}
-use Rattle.refusal.specs.Limits.{tagEnd, tagsMax}
+use Rattle.refusal.specs.Limits.{tagEnd, tagsMax, unwired}
 use Rattle.refusal.specs.Outcome.{Outcome, answered, refused, answeredBy, followedBy}
 use Rattle.lists.specs.First.{metAt, isSome}
 use Rattle.refusal.specs.ChecksLaws.{inOrder-answered}
 use Rattle.refusal.specs.PlaceLaws.{PlaceBelow, Numbered, numbered-checks, numbered-followed, numbered-cond}
-use Rattle.group.specs.Ascending.{limitCheck, ascendingCheck}
 use Rattle.list.specs.Reading.{Listed, readingChecks, readingOf}
 use Rattle.hash.specs.Formula.{groupOf}
 use Rattle.image.specs.View.{View, viewOf, groupsIn, startIn, endIn, slotLineIn, slotIn}
@@ -53,7 +52,7 @@ fits-of bound (refused reason place) le low numbered below = (numbered, omega ar
 
 -- Every refusal of building from a text has a number, and a length is at most 50,699.
 build-numbered : (text : List ℕ) (room : ℕ) → Numbered (buildingFromText text room)
-unfolding buildingFromText listFromText readingOf readingChecks buildingOf buildingChecks earlierChecks limitCheck ascendingCheck
+unfolding buildingFromText listFromText readingOf readingChecks buildingOf buildingChecks earlierChecks
 build-numbered text room =
     numbered-followed (listFromText text) _
     (numbered-checks _ (readingOf text tagsMax) refl (numbered-checks (readingChecks text tagsMax) _ refl tt))
@@ -93,9 +92,11 @@ lookup-numbered : (image : List ℕ) (t : ℕ) → Numbered (lookupOf image t)
 unfolding lookupOf lookupInGroup lookupChecks groupChecks openingChecks
 lookup-numbered image t =
     let v = viewOf image in
-    numbered-checks (lookupChecks v (groupOf (groupsIn v) t)) _ refl
-    (numbered-cond (eqb (startIn v (groupOf (groupsIn v) t)) (endIn v (groupOf (groupsIn v) t))) (answered unknown) _ tt
-    (slots-numbered v t _ _ (slots-numbered v t _ (answered unknown) tt)))
+    let g = groupOf (groupsIn v) t in
+    numbered-cond (eqb t unwired) _ _ (numbered-checks (openingChecks v) (answered unknown) refl tt)
+    (numbered-checks (lookupChecks v g) _ refl
+    (numbered-cond (eqb (startIn v g) (endIn v g)) (answered unknown) _ tt
+    (slots-numbered v t _ _ (slots-numbered v t _ (answered unknown) tt))))
 
 -- A number that lookup answers.
 abbrev SlotFound : Outcome Found → Type 0

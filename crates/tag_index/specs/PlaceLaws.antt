@@ -6,7 +6,7 @@ use Prim.Native.Nat.{ℕ, suc, _+_, _-_, _<_}
 use native.Mathlib.Omega.{arith}
 use lib.Dec.{eqb, ltb}
 use borrow.Author.Tests.{ltb-false, eqb-false}
-use Rattle.refusal.specs.Limits.{tagsMax, groupsMax}
+use Rattle.refusal.specs.Limits.{tagsMax, groupsMax, unwired}
 use Rattle.refusal.specs.Outcome.{Outcome, answered}
 use Rattle.lists.specs.BoolLaws.{neither-of-or}
 use Rattle.lists.specs.First.{metAt, isSome}
@@ -15,7 +15,7 @@ use Rattle.refusal.specs.ChecksLaws.{_then_, passed, inOrder-pass, inOrder-appe
 use Rattle.hash.specs.Formula.{groupOf}
 use Rattle.hash.specs.FormulaLaws.{group-below, place-below}
 use Rattle.image.specs.View.{View, viewOf, countIn, groupsIn, startIn, endIn, seedIn, slotLineIn, slotIn, faulty, candidateIn}
-use Rattle.image.specs.Checking.{openingChecks, malformedIn, misplaced, repeated, numberChecks, checkingChecks, checkingOf}
+use Rattle.image.specs.Checking.{openingChecks, malformedIn, holdsUnwired, misplaced, repeated, numberChecks, checkingChecks, checkingOf}
 use Rattle.image.specs.FaultLaws.{fair-of-faulty}
 use Rattle.image.specs.Lookup.{Found, number, unknown, groupChecks, lookupChecks, atSlot, lookupInGroup, lookupOf}
 use Rattle.opening.specs.Opening.{openingOf, Opens}
@@ -48,6 +48,7 @@ checking-place image =
     (opened-place image _ (λ opens.
     below-checks {A = ℕ} imageLines _ _
     ((λ _. first-below imageLines (malformedIn v) _ (omega (arith, opens .count-legal, opens .groups-legal)))
+    then (λ _. first-below imageLines (holdsUnwired v) _ (omega (arith, opens .count-legal)))
     then (λ _. first-below imageLines _ (groupsIn v) (omega (arith, opens .groups-legal)))
     then (λ _. first-below imageLines (misplaced v) _ (omega (arith, opens .count-legal)))
     then (λ _. first-below imageLines (repeated v) _ (omega (arith, opens .count-legal)))
@@ -63,10 +64,10 @@ slot-place v t j next lt h =
     ((λ _. metAt-below imageLines (slotLineIn v j) _ lt) then tt)
     (λ _. below-cond imageLines (eqb (slotIn v j) t) (answered (number j)) next (λ _. tt) (λ _. h))
 
--- The place of a refusal of lookup.
-pub lookup-place : (image : List ℕ) (t : ℕ) → PlaceBelow imageLines (lookupOf image t)
-unfolding lookupOf lookupInGroup lookupChecks groupChecks candidateIn slotLineIn
-lookup-place image t =
+-- The place of a refusal of a lookup in the tag's group, and of any lookup.
+group-place : (image : List ℕ) (t : ℕ) → PlaceBelow imageLines (lookupInGroup (viewOf image) t (groupOf (groupsIn (viewOf image)) t))
+unfolding lookupInGroup lookupChecks groupChecks candidateIn slotLineIn
+group-place image t =
     rw (inOrder-append (openingChecks v) _ _)
     (opened-place image _ (λ opens.
     let lt = group-below (groupsIn v) t (opens .groups-some) in
@@ -102,3 +103,8 @@ lookup-place image t =
           place-below (endIn v g - startIn v g) (seedIn v g) c t (omega arith),
         ) in
         slot-place v t _ _ (line 0) (slot-place v t _ _ (line 1) tt))
+
+pub lookup-place : (image : List ℕ) (t : ℕ) → PlaceBelow imageLines (lookupOf image t)
+unfolding lookupOf
+lookup-place image t =
+    below-cond imageLines (eqb t unwired) _ _ (λ _. opened-place image (answered unknown) (λ _. tt)) (λ _. group-place image t)

@@ -1,4 +1,6 @@
--- The starred worked values of document 01, 1 to 9, a row each. Theorem.antt proves them. Assumes nothing.
+-- The starred worked values of document 01, 1 to 9, a row each; 4, 5 and 6 are what document 02, §1, makes of them: "The two small
+-- cases … with 0 and one other tag, and the one that no seed can fill, become refusals of this kind." TableTheorem.antt proves them.
+-- Assumes nothing.
 use mathlib.Core.Bool.{true, false}
 use mathlib.Core.List.{List, [], _∷_}
 use Prim.Native.Nat.{ℕ}
@@ -47,17 +49,17 @@ value3 =
     ∷ takes (1 ∷ 3 ∷ []) 1 (false ∷ true ∷ [])
     ∷ [])
 
--- 4. "{0, 2147483648}, L = 1: seed 0, word 0."
+-- 4. {0, 2147483648}, L = 1: refusal 17.
 abbrev pub value4 : Row
-value4 = only 1 (placing (0 ∷ 2147483648 ∷ []) (placed 0 0) ∷ [])
+value4 = only 1 (placing (0 ∷ 2147483648 ∷ []) (refused 17 0) ∷ building (0 ∷ 2147483648 ∷ []) 1 (refused 17 0) ∷ [])
 
--- 5. "{0, 1073741824}, L = 1: seed 0, word 2."
+-- 5. {0, 1073741824}, L = 1: refusal 17.
 abbrev pub value5 : Row
-value5 = only 1 (placing (0 ∷ 1073741824 ∷ []) (placed 0 2) ∷ [])
+value5 = only 1 (placing (0 ∷ 1073741824 ∷ []) (refused 17 0) ∷ building (0 ∷ 1073741824 ∷ []) 1 (refused 17 0) ∷ [])
 
--- 6. "One group {0, 1073741824, 3221225472}: refusal 7 for every L from 1 to 65,536, since place 1 is never reached."
+-- 6. One group {0, 1073741824, 3221225472}: refusal 17 for every L from 1 to 65,536. "place 1 is never reached", as before.
 abbrev pub value6 : Row
-value6 = always (placing unreachable (refused 7 0) ∷ building unreachable 1 (refused 7 0) ∷ unreached unreachable 1 ∷ [])
+value6 = always (placing unreachable (refused 17 0) ∷ building unreachable 1 (refused 17 0) ∷ unreached unreachable 1 ∷ [])
 
 -- 7. "Empty list, B = 1: 22 bytes, start 0 and seed 0."
 abbrev pub value7 : Row

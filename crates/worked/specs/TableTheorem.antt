@@ -1,31 +1,28 @@
 -- The starred theorem: every row of the table holds. Assumes nothing.
 use mathlib.Core.Path.{_≡_, refl, subst}
-use mathlib.Core.Bool.{Bool, true, false}
+use mathlib.Core.Bool.{false}
 use mathlib.Core.List.{List, [], flatten}
-use mathlib.Core.Option.{none, some, orElse}
-use mathlib.Core.Logic.{_⊎_, inl, inr}
-use Prim.Native.Nat.{ℕ, zero, suc, _+_, _*_, _/_, _%_, _<_}
+use mathlib.Core.Option.{some, orElse}
+use Prim.Native.Nat.{ℕ}
 use native.Mathlib.Omega.{arith}
-use lib.Dec.{eqb}
-use lib.ListN.{length, getD}
-use borrow.Author.Tests.{le-ltb, eqb-true, eqb-false}
+use lib.ListN.{length}
+use borrow.Author.Tests.{le-ltb}
 use Rattle.refusal.specs.Limits.{limitMax, groupsMax, outside}
 use Rattle.refusal.specs.LimitsLaws.{outside-not}
 use Rattle.lists.specs.First.{first, metAt, isSome}
 use Rattle.refusal.specs.Checks.{met, inOrder}
 use Rattle.hash.specs.Formula.{product, highPart, hashed, groupOf, multiplier, placeOf}
-use Rattle.hash.specs.FormulaLaws.{multiplier-odd, place-below}
 use Rattle.hash.specs.OneTag.{oneTagChecks, placeOfOneTag}
 use Rattle.text.specs.Figure.{leading, figure}
 use Rattle.text.specs.Line.{pairLine}
 use Rattle.lists.specs.Occurs.{occurs, distinct}
-use Rattle.filling.specs.Filling.{placeBy, chosen, Fills}
+use Rattle.filling.specs.Filling.{placeBy, chosen}
 use Rattle.filling.specs.Least.{beginning, leastFrom, least, feasible}
 use Rattle.filling.specs.Word.{choiceNumber, wordOf}
-use Rattle.group.specs.Group.{bothPlaces, candidates, groupUnder, leastSeed, taken}
-use Rattle.filling.specs.FillingLaws.{unreached}
-use Rattle.group.specs.GroupLaws.{candidates-length, each-candidate, leastSeed-out, leastSeed-empty}
-use Rattle.group.specs.Ascending.{limitCheck, notAbove, ascendingCheck}
+use Rattle.group.specs.Group.{bothPlaces, candidates, leastSeed, taken}
+use Rattle.group.specs.GroupLaws.{leastSeed-empty}
+use Rattle.group.specs.Ascending.{notAbove}
+use Rattle.group.specs.Unwired.{startsUnwired}
 use Rattle.group.specs.Placing.{placingChecks, placementOf, placingOf}
 use Rattle.lists.specs.UpTo.{upTo}
 use Rattle.image.specs.Sheet.{linesOf, bytesOf, imageLength}
@@ -34,7 +31,8 @@ use Rattle.numbering.specs.Number.{choiceOf, placeIn, numberOf, tagNumbered}
 use Rattle.numbering.specs.Building.{sheetOf, seedTaken, choicesTaken, imageOf, earlierChecks, buildingChecks, buildingOf, written}
 use Rattle.numbering.specs.Building.{bufferAfter}
 use Rattle.worked.specs.Row.{Claim, Holds, AllHold, RowHolds, Every}
-use Rattle.worked.specs.Table.{value1, value2, value3, value4, value5, value6, value7, value8, value9, table, unreachable}
+use Rattle.worked.specs.UnreachedLaws.{place-never-one}
+use Rattle.worked.specs.Table.{value1, value2, value3, value4, value5, value6, value7, value8, value9, table}
 
 -- A row for one limit.
 holds-only : (limit : ℕ) (claims : List Claim) → AllHold limit claims → RowHolds (record { from = limit; upto = limit; claims = claims })
@@ -45,7 +43,7 @@ holds-only limit claims h l from upto = let e : limit ≡ l = omega arith in sub
 computed : ℕ
 unfolding AllHold Holds metAt isSome met inOrder orElse product highPart hashed groupOf multiplier placeOf
     oneTagChecks placeOfOneTag occurs distinct placeBy chosen beginning leastFrom least feasible choiceNumber wordOf
-    bothPlaces candidates taken limitCheck notAbove ascendingCheck placingChecks placementOf placingOf imageLength
+    bothPlaces candidates taken notAbove startsUnwired placingChecks placementOf placingOf imageLength
     select members startOf choiceOf placeIn numberOf tagNumbered leading figure pairLine flatten upTo linesOf bytesOf
     sheetOf seedTaken choicesTaken imageOf buildingChecks earlierChecks buildingOf written bufferAfter
 computed = 0
@@ -71,61 +69,17 @@ row3 =
 
 row4 : RowHolds value4
 unfolding computed first outside leastSeed
-row4 = holds-only 1 (value4 .claims) (refl, tt)
+row4 = holds-only 1 (value4 .claims) (refl, ((λ room fits. refl), tt))
 
 row5 : RowHolds value5
 unfolding computed first outside leastSeed
-row5 = holds-only 1 (value5 .claims) (refl, tt)
-
--- Value 6. The products of an odd number with a quarter and three quarters of 2^32 are these two, in one order or the other, as the
--- odd number is 1 or 3 more than a multiple of 4.
-quarters-one : (q : ℕ) → (product (4 * q + 1) 1073741824 ≡ 1073741824) × (product (4 * q + 1) 3221225472 ≡ 3221225472)
-unfolding product
-quarters-one q = (omega arith, omega arith)
-
-quarters-three : (q : ℕ) → (product (4 * q + 3) 1073741824 ≡ 3221225472) × (product (4 * q + 3) 3221225472 ≡ 1073741824)
-unfolding product
-quarters-three q = (omega arith, omega arith)
-
-odd-cases : (a : ℕ) → a % 2 ≡ 1 → (a ≡ 4 * (a / 4) + 1) ⊎ (a ≡ 4 * (a / 4) + 3)
-odd-cases a odd = go (eqb (a % 4) 1) refl
-  where
-    go : (b : Bool) → eqb (a % 4) 1 ≡ b → (a ≡ 4 * (a / 4) + 1) ⊎ (a ≡ 4 * (a / 4) + 3)
-    go true e = inl (omega (arith, eqb-true (a % 4) 1 e))
-    go false e = let n : a % 4 ≡ 1 → ⊥ = eqb-false (a % 4) 1 e in inr (omega (arith, n))
-
--- So none of value 6's tags has place 1 under an odd multiplier, and every multiplier is odd.
-never-one : (a q i : ℕ) → (a ≡ 4 * q + 1) ⊎ (a ≡ 4 * q + 3) → i < 3 → hashed a 3 (getD unreachable i 0) ≡ 1 → ⊥
-unfolding hashed highPart
-never-one a q zero o lt e = let none-left : product a 0 ≡ 0 = unfold product in omega arith in omega (arith, rw none-left at e)
-never-one a q (suc zero) (inl o) lt e = omega (arith, rw (o, (quarters-one q) .0) at e)
-never-one a q (suc zero) (inr o) lt e = omega (arith, rw (o, (quarters-three q) .0) at e)
-never-one a q (suc (suc zero)) (inl o) lt e = omega (arith, rw (o, (quarters-one q) .1) at e)
-never-one a q (suc (suc zero)) (inr o) lt e = omega (arith, rw (o, (quarters-three q) .1) at e)
-never-one a q (suc (suc (suc i))) o lt e = omega arith
-
-place-never-one : (s i c : ℕ) → i < 3 → placeOf 3 s c (getD unreachable i 0) ≡ 1 → ⊥
-unfolding placeOf
-place-never-one s i c lt e =
-    let a = multiplier s c in never-one a (a / 4) i (odd-cases a (multiplier-odd s c)) lt e
-
-unreachable-none : (limit : ℕ) → leastSeed unreachable limit ≡ none
-unreachable-none limit = leastSeed-out unreachable limit (λ s below. none-fills s)
-  where
-    none-fills : (s : ℕ) (cs : List Bool) → Fills (groupUnder unreachable s) cs → ⊥
-    none-fills s cs f =
-        unreached 3 (groupUnder unreachable s) cs f (candidates-length 3 s unreachable)
-        (each-candidate (λ x. x < 3) 3 s unreachable (λ i c lt. place-below 3 s c (getD unreachable i 0) (omega arith)))
-        1
-        (omega arith)
-        (each-candidate (λ x. x ≡ 1 → ⊥) 3 s unreachable (place-never-one s))
+row5 = holds-only 1 (value5 .claims) (refl, ((λ room fits. refl), tt))
 
 row6 : RowHolds value6
 unfolding computed RowHolds first
 row6 limit from upto =
     let legal : outside 1 limitMax limit ≡ false = outside-not 1 limitMax limit from upto in
-    let unseeded : leastSeed unreachable limit ≡ none = unreachable-none limit in
-    (rw (legal, unseeded), ((λ room fits. rw (one-group, legal, le-ltb room 55 fits, unseeded)), ((λ s c i. place-never-one s i c), tt)))
+    (rw legal, ((λ room fits. rw (one-group, legal)), ((λ s c i. place-never-one s i c), tt)))
 
 row7 : RowHolds value7
 unfolding computed RowHolds first

@@ -18,13 +18,15 @@ use Rattle.lists.specs.Occurs.{occurs, distinct}
 use Rattle.filling.specs.Filling.{placeBy}
 use Rattle.filling.specs.Least.{beginning, leastFrom, least, feasible}
 use Rattle.group.specs.Group.{bothPlaces, candidates, leastSeed, taken}
-use Rattle.group.specs.Ascending.{limitCheck, notAbove, ascendingCheck}
+use Rattle.group.specs.Ascending.{notAbove}
+use Rattle.group.specs.Unwired.{startsUnwired}
 use Rattle.list.specs.Reading.{malformed, lineCount, tagCount, tagsFrom, listedIn, readingChecks, readingOf}
 use Rattle.lists.specs.UpTo.{upTo}
 use Rattle.image.specs.Sheet.{linesOf, bytesOf, imageLength, longestImage}
 use Rattle.image.specs.View.{viewOf, countIn, groupsIn, startIn, seedIn, slotLineIn, slotIn, endIn, faulty, candidateIn}
-use Rattle.image.specs.Checking.{openingChecks, malformedIn, groupOfSlot, misplaced, repeated, numberChecks, checkingChecks, checkingOf}
-use Rattle.image.specs.Lookup.{number, groupChecks, lookupChecks, atSlot, lookupInGroup, lookupOf}
+use Rattle.image.specs.Checking.{openingChecks, malformedIn, groupOfSlot, holdsUnwired, misplaced, repeated, numberChecks}
+use Rattle.image.specs.Checking.{checkingChecks, checkingOf}
+use Rattle.image.specs.Lookup.{number, unknown, groupChecks, lookupChecks, atSlot, lookupInGroup, lookupOf}
 use Rattle.numbering.specs.Members.{select, members, startOf}
 use Rattle.numbering.specs.Number.{choiceOf, placeIn, numberOf, tagNumbered}
 use Rattle.numbering.specs.Building.{sheetOf, seedTaken, choicesTaken, imageOf, earlierChecks, buildingChecks, buildingOf}
@@ -37,11 +39,11 @@ computed : ℕ
 unfolding flatten orElse outside answeredBy followedBy first metAt isSome met inOrder product highPart hashed
     groupOf multiplier placeOf leading figure valueFrom same field lineAt pairLine tagLine ended bothFields pairOf tagOf
     within imageHeader groupLine slotLine listHeader listLine occurs distinct placeBy beginning leastFrom least feasible
-    bothPlaces candidates leastSeed taken limitCheck notAbove ascendingCheck malformed lineCount tagCount tagsFrom
+    bothPlaces candidates leastSeed taken notAbove startsUnwired malformed lineCount tagCount tagsFrom
     listedIn readingChecks readingOf upTo linesOf bytesOf imageLength longestImage viewOf countIn groupsIn startIn seedIn slotLineIn
-    slotIn endIn faulty candidateIn openingChecks malformedIn groupOfSlot misplaced repeated numberChecks checkingChecks checkingOf
-    groupChecks lookupChecks atSlot lookupInGroup lookupOf select members startOf choiceOf placeIn numberOf tagNumbered
-    sheetOf seedTaken choicesTaken imageOf buildingChecks earlierChecks buildingOf listFromText buildingFromText
+    slotIn endIn faulty candidateIn openingChecks malformedIn groupOfSlot holdsUnwired misplaced repeated numberChecks
+    checkingChecks checkingOf groupChecks lookupChecks atSlot lookupInGroup lookupOf select members startOf choiceOf
+    placeIn numberOf tagNumbered sheetOf seedTaken choicesTaken imageOf buildingChecks earlierChecks buildingOf listFromText buildingFromText
     imageOfList outputOf printed answer64 foundNumber buildAnswer checkAnswer lookupAnswer
 computed = 0
 
@@ -106,6 +108,17 @@ damaged-start = (refl, refl)
 pub damaged-slots : (checkingOf (set output 42 51) ≡ refused 14 0) × (checkingOf (set output 53 51) ≡ refused 15 2)
 unfolding computed
 damaged-slots = (refl, refl)
+
+-- Tag 0 in the place of tag 1 of the list, and of tag 2 in the image: 17 at place 0.
+pub unwired-refused : (buildAnswer (set input 20 48) 66 ≡ 73014444032) × (checkingOf (set output 42 48) ≡ refused 17 0)
+unfolding computed
+unwired-refused = (refl, refl)
+
+-- Tag 0 is unknown also where the lines of its group are damaged, where tag 2 of that group is refused; and refused where the image is cut.
+pub unwired-looked : (lookupOf output 0 ≡ answered unknown) × (lookupOf (set output 20 97) 0 ≡ answered unknown)
+    × (lookupOf (set output 20 97) 2 ≡ refused 12 1) × (lookupOf (take 65 output) 0 ≡ refused 11 0)
+unfolding computed
+unwired-looked = (refl, refl, refl, refl)
 
 -- A list text that ends within a line: 16 at place 0, as a 64-bit answer.
 pub text-short : buildAnswer (take 43 input) 66 ≡ 68719476736

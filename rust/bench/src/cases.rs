@@ -97,9 +97,10 @@ pub fn built() -> Vec<Case> {
 
 /// One group that no seed serves, so that all of them are tried.
 ///
-/// The tags are multiples of 2^28 or 2^27, so their places under a seed depend on the seed's low
-/// bits only. In the cases "dropped" the occupancy word drops every seed; in the cases "evicted"
-/// it drops none, and a chain of evictions ends the test of each.
+/// The tags are multiples of 2^28 or 2^27, so their places under a seed depend on the seed's lowest
+/// two or three bits only: four or eight seeds stand for all. In the cases "dropped" the occupancy
+/// word drops every seed; in the cases "evicted" it drops none, and a chain of evictions ends the
+/// test of each.
 pub fn unserved() -> Vec<Case> {
     let case = |name, title, shift, multiples: &[u32]| Case {
         name,
@@ -107,13 +108,13 @@ pub fn unserved() -> Vec<Case> {
         groups: 1,
         tags: multiples.iter().map(|multiple| multiple << shift).collect(),
     };
-    let first_24: Vec<u32> = (0..24).collect();
+    let first_24: Vec<u32> = (1..=24).collect();
     vec![
         case(
             "8-dropped",
             "8 tags that no seed serves, all seeds dropped early",
             28,
-            &[0, 1, 2, 3, 4, 6, 8, 9],
+            &[1, 2, 3, 4, 6, 8, 9, 11],
         ),
         case(
             "8-evicted",
@@ -179,4 +180,21 @@ pub fn passing(tags: &[u32]) -> usize {
         word.count_ones() == n
     };
     (0..LIMIT).filter(touches_all).count()
+}
+
+#[cfg(test)]
+mod tests {
+    use super::{passing, unserved, LIMIT};
+    use crate::plain::least_seed;
+
+    #[test]
+    fn no_seed_serves_these_groups_and_all_seeds_are_dropped_early_or_none() {
+        for case in unserved() {
+            assert!(!case.tags.contains(&0), "{}", case.title);
+            assert_eq!(least_seed(&case.tags, LIMIT), None, "{}", case.title);
+            let dropped = case.name.ends_with("dropped");
+            let passing_due = if dropped { 0 } else { LIMIT as usize };
+            assert_eq!(passing(&case.tags), passing_due, "{}", case.title);
+        }
+    }
 }

@@ -15,6 +15,7 @@ pub fn compare(tally: &mut Tally, random: &mut Random, size: &Size) {
         let tags = asked(random, case, 5);
         small(tally, &image, &tags, size);
         lines(tally, &image, &tags);
+        unwired(tally, case, &image, &tags);
     }
     hand_made(tally);
     for _ in 0..size.lists {
@@ -39,7 +40,7 @@ fn small_cases(random: &mut Random) -> Vec<Case> {
     let mut cases = vec![
         Case::new(2, 9, [1, 2, 3]),
         Case::new(1, 1, []),
-        Case::new(1, 99, [0, 1 << 31, u32::MAX]),
+        Case::new(1, 99, [1, 1 << 31, u32::MAX]),
         Case::new(3, 99, []),
         Case::new(17, 99, [5, 70_001]),
     ];
@@ -158,6 +159,54 @@ fn lines(tally: &mut Tally, image: &[u8], tags: &[u32]) {
     }
 }
 
+/// A line that holds tag 0.
+const UNWIRED: &[u8; LINE] = b"         0\n";
+
+/// Tag 0 in one slot, in two and in all: alone, and with a malformed line, a group at fault, a wrong
+/// or a repeated tag. Lookups are of the tags given and of some in the group of tag 0.
+fn unwired(tally: &mut Tally, case: &Case, image: &[u8], tags: &[u32]) {
+    let first_slot = 1 + case.groups as usize;
+    let count = case.tags.len();
+    let tags = [tags, &tags_of_group(0, case.groups, 2)].concat();
+    let tags = &tags[..];
+    let holding_0 = |slots: &[usize]| {
+        let mut changed = image.to_vec();
+        for slot in slots {
+            changed[LINE * (first_slot + slot)..][..LINE].copy_from_slice(UNWIRED);
+        }
+        changed
+    };
+    tally.kind("tag 0 in all slots");
+    examine(tally, &holding_0(&(0..count).collect::<Vec<_>>()), tags);
+    for slot in 0..count {
+        tally.kind("tag 0 in a slot");
+        let changed = holding_0(&[slot]);
+        examine(tally, &changed, tags);
+        tally.kind("tag 0 in two slots");
+        for other in slot + 1..count {
+            examine(tally, &holding_0(&[slot, other]), tags);
+        }
+        for line in (0..first_slot + count).filter(|&line| line != first_slot + slot) {
+            tally.kind("tag 0 in a slot and a malformed line");
+            for malformed in [b"          \n", b"        02\n", b"    0    0\r"] {
+                put(tally, &changed, line, malformed, tags);
+            }
+            if line >= first_slot {
+                tally.kind("tag 0 in a slot and a wrong or repeated tag");
+                for &tag in tags.iter().chain(&case.tags) {
+                    put(tally, &changed, line, &line_of_tag(tag), tags);
+                }
+            } else if line > 0 {
+                tally.kind("tag 0 in a slot and a faulty group");
+                let (start, seed) = read_two(&image[LINE * line..][..LINE]).expect("a group line");
+                for (start, seed) in other_pairs(start, seed) {
+                    put(tally, &changed, line, &line_of_two(start, seed), tags);
+                }
+            }
+        }
+    }
+}
+
 /// Examines the image with one line replaced.
 fn put(tally: &mut Tally, image: &[u8], index: usize, line: &[u8], tags: &[u32]) {
     let mut changed = image.to_vec();
@@ -199,15 +248,18 @@ fn hand_made(tally: &mut Tally) {
         (4_096, 512),
     ] {
         for start in [0, 1, 24, 25, 4_096, 99_999] {
-            let mut image = line_of_two(count, groups);
-            for group in 0..groups {
-                let start = if group == 0 { 0 } else { start };
-                image.extend(line_of_two(start, 65_535));
+            // From tag 0 on, 17 comes before 13.
+            for first in [0, 1] {
+                let mut image = line_of_two(count, groups);
+                for group in 0..groups {
+                    let start = if group == 0 { 0 } else { start };
+                    image.extend(line_of_two(start, 65_535));
+                }
+                for tag in first..first + count as u32 {
+                    image.extend(line_of_tag(tag));
+                }
+                examine(tally, &image, &tags);
             }
-            for tag in 0..count as u32 {
-                image.extend(line_of_tag(tag));
-            }
-            examine(tally, &image, &tags);
         }
     }
     // Ends that lie past N by one and by many, of the first group and of a later one.
@@ -257,7 +309,7 @@ fn repeated(tally: &mut Tally, seed: u32, size: u32) {
     let mut image = line_of_two(u64::from(size), 1);
     image.extend(line_of_two(0, u64::from(seed)));
     for slot in slots {
-        image.extend(line_of_tag(slot.unwrap_or(0)));
+        image.extend(line_of_tag(slot.unwrap_or(u32::MAX)));
     }
     let asked: Vec<u32> = twice
         .copied()
@@ -312,7 +364,7 @@ fn fault(random: &mut Random, case: &Case, image: &[u8]) -> (&'static str, Vec<u
     let count = image.len() / LINE;
     let groups = case.groups as usize;
     let slot = |random: &mut Random| LINE * (1 + groups + random.below(case.tags.len()));
-    match random.below(if case.tags.len() > 1 { 8 } else { 5 }) {
+    match random.below(if case.tags.len() > 1 { 10 } else { 5 }) {
         0 => {
             changed[random.below(image.len())] = random.next_u64() as u8;
             ("sampled bytes of larger images", changed)
@@ -349,6 +401,24 @@ fn fault(random: &mut Random, case: &Case, image: &[u8]) -> (&'static str, Vec<u
             let at = slot(random);
             changed[at..at + LINE].copy_from_slice(&line_of_tag(random.tag()));
             ("foreign tags in larger images", changed)
+        }
+        7 => {
+            for _ in 0..random.within(1, 3) {
+                let at = slot(random);
+                changed[at..at + LINE].copy_from_slice(UNWIRED);
+            }
+            ("tag 0 in slots of larger images", changed)
+        }
+        8 => {
+            // With another fault, in a line or in a group: 12 before 17, 17 before 13 and 14.
+            let (group_line, other, at) = (1 + random.below(groups), slot(random), slot(random));
+            match random.below(3) {
+                0 => changed[LINE * (1 + random.below(count - 1)) + 9] = b' ',
+                1 => changed[LINE * group_line..][..LINE].copy_from_slice(&line_of_two(99_999, 0)),
+                _ => changed[other..][..LINE].copy_from_slice(&line_of_tag(random.tag())),
+            }
+            changed[at..][..LINE].copy_from_slice(UNWIRED);
+            ("tag 0 and another fault in larger images", changed)
         }
         _ => {
             // The next slot's tag: often of the same group, so that 15 comes too.

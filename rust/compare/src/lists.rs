@@ -123,7 +123,20 @@ pub fn absent_tags(random: &mut Random, case: &Case) -> Vec<u32> {
     tags
 }
 
-/// Ascending tags, `count` different values of `draw`.
+/// Five tags that no seed serves, since place 2 is never reached: multipliers are odd, so an odd
+/// multiple of 2^29 stays one, and has the place 0, 1, 3 or 4; two times 2^29 has the place 1 or 3.
+pub const WITHOUT_PLACE_2: [u32; 5] = [1 << 29, 2 << 29, 3 << 29, 5 << 29, 7 << 29];
+
+/// Six tags that no seed serves though every place is touched: the four odd multiples of 2^29 and
+/// four times 2^29 have only the places 0, 2, 3 and 5, four places for five tags.
+const FIVE_ON_FOUR_PLACES: [u32; 6] = [1 << 29, 2 << 29, 3 << 29, 4 << 29, 5 << 29, 7 << 29];
+
+/// The tags behind tag 0, for which 17 is due.
+pub fn behind_0(tags: &[u32]) -> Vec<u32> {
+    [&[0], tags].concat()
+}
+
+/// Ascending tags, `count` different values of `draw` that are not 0.
 fn different(count: usize, mut draw: impl FnMut() -> u32) -> Vec<u32> {
     let mut tags = BTreeSet::new();
     // A source with few values may run dry: then there are fewer tags.
@@ -132,6 +145,7 @@ fn different(count: usize, mut draw: impl FnMut() -> u32) -> Vec<u32> {
             break;
         }
         tags.insert(draw());
+        tags.remove(&0);
     }
     tags.into_iter().collect()
 }
@@ -149,15 +163,12 @@ pub fn structured(random: &mut Random) -> Vec<(&'static str, Case)> {
     let first = random.tag();
     let dense = (0..count as u32).map_while(|step| first.checked_add(step));
     add("dense lists", dense.collect());
-    let from_zero = random.below(5) as u32;
-    add(
-        "dense lists",
-        (from_zero..from_zero + count as u32).collect(),
-    );
+    let low = 1 + random.below(5) as u32;
+    add("dense lists", (low..low + count as u32).collect());
     let stride = u32::MAX / (count as u32 + 1);
     add(
         "sparse lists",
-        (0..count as u32).map(|k| k * stride).collect(),
+        (1..=count as u32).map(|k| k * stride).collect(),
     );
     let centres: Vec<u32> = (0..random.within(1, 4)).map(|_| random.tag()).collect();
     let near = different(count, || {
@@ -168,18 +179,19 @@ pub fn structured(random: &mut Random) -> Vec<(&'static str, Case)> {
     let multiples = different(count.min(24), || (random.tag() >> shift) << shift);
     add("multiples of a power of two", multiples);
     let mut ends = different(count.min(22), || random.tag());
-    ends.extend([0, u32::MAX]);
+    ends.extend([1, u32::MAX]);
     ends.sort_unstable();
     ends.dedup();
-    add("lists with 0 and 4294967295", ends);
-    let powers = different(count.min(33), || match random.below(33) {
-        32 => 0,
-        bit => 1 << bit,
-    });
+    add("lists with 1 and 4294967295", ends);
+    let powers = different(count.min(32), || 1 << random.below(32));
     add("powers of two", powers);
     let own = random.below(groups as usize) as u32;
     let alone = different(random.within(0, 24), || tag_of_group(random, own, groups));
     add("all tags in one group", alone);
+    // Any of these with tag 0 in front.
+    let any = &cases[random.below(cases.len())].1;
+    let unwired = Case::new(groups, limit, behind_0(&any.tags));
+    cases.push(("lists with tag 0", unwired));
     cases
 }
 
@@ -206,10 +218,12 @@ fn overfull(tally: &mut Tally, random: &mut Random) {
     }
     tags.sort_unstable();
     tags.dedup();
-    let case = Case::new(groups, 65_536, tags);
-    // With a byte less, 9 comes before 10.
-    for room in [case.length(), case.length() - 1] {
-        tally.build(&case.text(), room);
+    // With a byte less, 9 comes before 10; with tag 0 in front, 17 before both.
+    for tags in [behind_0(&tags), tags] {
+        let case = Case::new(groups, 65_536, tags);
+        for room in [case.length(), case.length() - 1] {
+            tally.build(&case.text(), room);
+        }
     }
 }
 
@@ -258,9 +272,11 @@ fn worked(tally: &mut Tally) {
         (1, vec![0, 1_073_741_824]),
         (1, vec![0, 1_073_741_824, 3_221_225_472]),
         (65_536, vec![0, 1_073_741_824, 3_221_225_472]),
+        (1, vec![13, 2_147_483_648]),
+        (1, vec![13, 1_073_741_824]),
         (1, vec![]),
         (1, vec![5, 5]),
-        (9, vec![0, 2, 3_044_110_112]),
+        (9, vec![13, 57, 61]),
         (9, vec![14, 337_764_173, 964_266_638, 2_787_973_142]),
         (1, vec![599, 1_193]),
         (1, vec![24, 1_445_023_297]),
@@ -281,8 +297,10 @@ fn ranges(tally: &mut Tally) {
     tally.kind("ranges of B and L");
     for groups in [0, 1, 2, 511, 512, 513, 1_000, 65_536, 99_999] {
         for limit in [0, 1, 2, 65_535, 65_536, 65_537, 99_999] {
-            let case = Case::new(groups, limit, [0, 7, 70_001, u32::MAX]);
-            tally.build(&case.text(), case.length());
+            for first in [0, 1] {
+                let case = Case::new(groups, limit, [first, 7, 70_001, u32::MAX]);
+                tally.build(&case.text(), case.length());
+            }
         }
     }
 }
@@ -290,12 +308,15 @@ fn ranges(tally: &mut Tally) {
 /// Several conditions met at once: the first in the order written decides.
 fn order_of_refusals(tally: &mut Tally) {
     tally.kind("several conditions at once");
-    let many: Vec<u32> = (0..4_097).collect();
-    let unserved = vec![0, 1_073_741_824, 3_221_225_472];
+    let many: Vec<u32> = (1..=4_097).collect();
     let full = tags_of_group(0, 1, 25);
+    let lists: [&[u32]; 6] = [&many, &full, &WITHOUT_PLACE_2, &[5, 5], &[1, 2], &[]];
+    // Each of them as it is, and with tag 0 in front: 17 beside 5, 10, 7, 6 and alone, and in the
+    // shorter buffers beside 9.
+    let lists = lists.map(|tags| [tags.to_vec(), behind_0(tags)]).concat();
     for groups in [0, 1, 513] {
         for limit in [0, 1, 65_537] {
-            for tags in [&many, &full, &unserved, &vec![5, 5], &vec![1, 2]] {
+            for tags in lists.iter().chain([&vec![0, 0], &vec![7, 0]]) {
                 let case = Case::new(groups, limit, tags.clone());
                 for room in [0, case.length() - 1, case.length()] {
                     tally.build(&case.text(), room);
@@ -331,9 +352,11 @@ fn ascending(tally: &mut Tally, random: &mut Random) {
         }
     }
     // The last index there can be.
-    let mut case = Case::new(512, 9, (0..4_096).collect::<Vec<_>>());
-    case.tags[4_095] = 4_094;
-    tally.build(&case.text(), case.length());
+    for first in [0, 1] {
+        let mut case = Case::new(512, 9, (first..first + 4_096).collect::<Vec<_>>());
+        case.tags[4_095] = case.tags[4_094];
+        tally.build(&case.text(), case.length());
+    }
 }
 
 /// No tags, one, 24 and 25 in a group, 4,096 and 4,097 in the list.
@@ -373,7 +396,13 @@ fn counts(tally: &mut Tally, random: &mut Random) {
         last.tags[count - 1] = u32::MAX;
         rebuild(tally, random, &last);
     }
-    for (first, count) in [(0, 4_096), (0, 4_097), (u32::MAX - 4_096, 4_097)] {
+    for (first, count) in [
+        (1, 4_096),
+        (1, 4_097),
+        (0, 4_096),
+        (0, 4_097),
+        (u32::MAX - 4_096, 4_097),
+    ] {
         let tags: Vec<u32> = (0..count).map(|step| first + step).collect();
         let case = Case::new(512, 65_536, tags);
         rebuild(tally, random, &case);
@@ -395,6 +424,7 @@ fn buffers(tally: &mut Tally, random: &mut Random) {
         Case::new(1, 1, []),
         Case::new(512, 1, []),
         Case::new(2, 9, [1, 2, 3]),
+        Case::new(2, 9, [0, 1, 2, 3]),
         Case::new(4, 99, different(20, || random.tag())),
     ];
     cases.push(large(random));
@@ -418,14 +448,20 @@ fn buffers(tally: &mut Tally, random: &mut Random) {
     }
 }
 
-/// 7 at chosen groups: three tags that no seed serves stand in a group of their own, in a list
-/// whose other groups have seeds, and multiples of a high power of two.
+/// Multiples of a high power of two, with and without a seed, and 7 at many groups.
 fn without_seed(tally: &mut Tally, random: &mut Random, size: &Size) {
     tally.kind("groups without a seed");
     for limit in [1, 2, 999] {
         for shift in 26..31 {
-            let count = (1u32 << (32 - shift)).min(24);
-            let case = Case::new(1, limit, (0..count).map(|k| k << shift).collect::<Vec<_>>());
+            let multiples = (1u32 << (32 - shift)) - 1;
+            for count in [multiples.min(24), multiples.min(23) - 1] {
+                let tags: Vec<u32> = (1..=count).map(|k| k << shift).collect();
+                let case = Case::new(1, limit, tags);
+                tally.build(&case.text(), case.length());
+            }
+        }
+        for tags in [&WITHOUT_PLACE_2[..], &FIVE_ON_FOUR_PLACES] {
+            let case = Case::new(1, limit, tags);
             tally.build(&case.text(), case.length());
         }
     }

@@ -1,4 +1,4 @@
-//! Runs cases against the model of document 01: the proved functions over the C boundary, answers
+//! Runs cases against the model of the papers: the proved functions over the C boundary, answers
 //! and every byte of the buffer, the binding's `Index`, and the index printer.
 //!
 //!     compare                  a million answers and more, under a minute

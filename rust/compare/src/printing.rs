@@ -8,7 +8,7 @@ use std::thread;
 
 use random::Random;
 
-use crate::lists::{large, structured, tags_of_group, Case};
+use crate::lists::{behind_0, large, structured, tags_of_group, Case, WITHOUT_PLACE_2};
 use crate::tally::{differs, shown, Tally};
 use crate::texts::damaged;
 use crate::Size;
@@ -47,22 +47,39 @@ pub fn compare(tally: &mut Tally, random: &mut Random, size: &Size, printer: &Pa
 
 fn texts(random: &mut Random, size: &Size) -> Vec<(&'static str, Vec<u8>)> {
     let mut texts = damaged(random);
-    let many: Vec<u32> = (0..4_097).collect();
+    let many: Vec<u32> = (1..=4_097).collect();
     for case in [
         Case::new(1, 1, []),
         Case::new(0, 1, [1]),
         Case::new(513, 1, [1]),
         Case::new(1, 0, [1]),
         Case::new(1, 65_537, [1]),
+        Case::new(512, 9, behind_0(&many)),
         Case::new(512, 9, many),
         Case::new(1, 1, [5, 5]),
         Case::new(1, 1, [1, 3]),
-        Case::new(1, 65_536, [0, 1_073_741_824, 3_221_225_472]),
+        Case::new(1, 65_536, WITHOUT_PLACE_2),
         Case::new(4, 65_536, tags_of_group(2, 4, 24)),
         Case::new(4, 65_536, tags_of_group(2, 4, 25)),
         Case::new(1, 65_536, tags_of_group(0, 1, 25)),
     ] {
         texts.push(("boundary lists", case.text()));
+    }
+    // 17 alone, and beside 6, 10, 7, 8 and 4.
+    for case in [
+        Case::new(1, 1, [0]),
+        Case::new(2, 9, [0, 1, 2, 3]),
+        Case::new(1, 1, [0, 0]),
+        Case::new(1, 1, [0, 5, 5]),
+        Case::new(1, 1, [7, 0]),
+        Case::new(1, 9, behind_0(&tags_of_group(0, 1, 24))),
+        Case::new(2, 9, behind_0(&tags_of_group(1, 2, 25))),
+        Case::new(1, 65_536, [0, 1_073_741_824, 3_221_225_472]),
+        Case::new(1, 9, behind_0(&WITHOUT_PLACE_2)),
+        Case::new(0, 9, [0]),
+        Case::new(1, 0, [0]),
+    ] {
+        texts.push(("lists with tag 0", case.text()));
     }
     // Several conditions at once.
     for groups in [0, 1, 512, 513, 99_999] {

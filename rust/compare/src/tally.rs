@@ -37,12 +37,20 @@ impl Operation {
     /// The refusals that must have come, and no others can.
     fn refusals(self) -> &'static [usize] {
         match self {
-            Operation::Building => &[4, 5, 6, 7, 8, 9, 10, 16],
-            Operation::Checking => &[11, 12, 13, 14, 15],
+            Operation::Building => &[4, 5, 6, 7, 8, 9, 10, 16, 17],
+            Operation::Checking => &[11, 12, 13, 14, 15, 17],
             Operation::Lookup => &[11, 12, 13],
             // The printer's buffer holds every image.
-            Operation::Printing => &[4, 5, 6, 7, 8, 10, 16],
+            Operation::Printing => &[4, 5, 6, 7, 8, 10, 16, 17],
         }
+    }
+
+    /// Whether the refusal names a place. 17 names a slot in checking; otherwise it is the first tag
+    /// that is 0.
+    fn names_place(self, number: usize) -> bool {
+        let reason = Reason::from_number(number as u32);
+        reason.and_then(Reason::place_kind).is_some()
+            && (number != 17 || self == Operation::Checking)
     }
 
     /// What an answer is called that is neither unknown nor a refusal.
@@ -60,8 +68,8 @@ impl Operation {
 /// anything else.
 #[derive(Default)]
 struct Answers {
-    refused: [u64; 17],
-    places: [BTreeSet<u32>; 17],
+    refused: [u64; 18],
+    places: [BTreeSet<u32>; 18],
     unknown: u64,
     success: u64,
 }
@@ -81,10 +89,19 @@ struct Indexes {
     lookups: u64,
 }
 
+/// Lookups of tag 0: unknown, of these the ones in images that checking refuses, and refused.
+#[derive(Default)]
+struct Unwired {
+    unknown: u64,
+    unknown_at_fault: u64,
+    refused: u64,
+}
+
 pub struct Tally {
     kind: &'static str,
     kinds: BTreeMap<(Operation, &'static str), u64>,
     answers: [Answers; 4],
+    unwired: Unwired,
     indexes: Indexes,
     /// Lends each call memory of just the right size, so that a memory checker sees a byte too far.
     exact: bool,
@@ -96,6 +113,7 @@ impl Tally {
             kind: "",
             kinds: BTreeMap::new(),
             answers: Default::default(),
+            unwired: Unwired::default(),
             indexes: Indexes::default(),
             exact,
         }
@@ -165,6 +183,15 @@ impl Tally {
             self.differs(&case, image, answer, expected, "");
         }
         self.count(Operation::Lookup, answer);
+        if tag == 0 {
+            let unwired = &mut self.unwired;
+            match answer {
+                UNKNOWN => unwired.unknown += 1,
+                _ => unwired.refused += 1,
+            }
+            let fault = model::answer_check(image) >> 32;
+            unwired.unknown_at_fault += u64::from(answer == UNKNOWN && fault != 0);
+        }
         answer
     }
 
@@ -244,7 +271,7 @@ impl Tally {
     }
 
     /// Prints the counts, and says whether everything that must have come has come: every answer,
-    /// and every refusal that names a place at more than one.
+    /// every refusal that names a place at more than one, and the others at place 0 only.
     pub fn report(&self) -> bool {
         println!("cases of each kind");
         for ((operation, kind), count) in &self.kinds {
@@ -266,16 +293,23 @@ impl Tally {
                 line(answers.unknown, "unknown", true);
             }
             for &number in operation.refusals() {
-                let (count, places) = (answers.refused[number], answers.places[number].len());
-                let reason = Reason::from_number(number as u32);
-                if reason.and_then(Reason::place_kind).is_some() {
-                    let what = format!("refusal {number}, at {places} places");
-                    line(count, &what, places > 1);
+                let (count, places) = (answers.refused[number], &answers.places[number]);
+                if operation.names_place(number) {
+                    let what = format!("refusal {number}, at {} places", places.len());
+                    line(count, &what, places.len() > 1);
                 } else {
-                    line(count, &format!("refusal {number}"), true);
+                    let what = format!("refusal {number}");
+                    line(count, &what, places.iter().all(|&place| place == 0));
                 }
             }
         }
+        let Unwired {
+            unknown,
+            unknown_at_fault,
+            refused,
+        } = self.unwired;
+        println!("            of tag 0, lookups: {unknown} unknown, {unknown_at_fault} of them in images at fault, {refused} refused");
+        complete &= unknown_at_fault > 0 && refused > 0;
         let Indexes {
             taken,
             refused,
@@ -288,7 +322,7 @@ impl Tally {
              the C boundary; --stored has them"
         );
         if !complete {
-            println!("compare: some answer never came, or a refusal at one place only");
+            println!("compare: some answer never came, or a refusal at one place only or at one that it does not name");
         }
         complete
     }

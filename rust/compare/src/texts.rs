@@ -124,7 +124,7 @@ pub fn damaged(random: &mut Random) -> Vec<(&'static str, Vec<u8>)> {
 /// 65,527 bytes are 5,957 lines, so a text of that length is examined and one byte more is not.
 fn long(random: &mut Random) -> Vec<(&'static str, Vec<u8>)> {
     let mut texts = Vec::new();
-    let tags: Vec<u32> = (0..5_956).collect();
+    let tags: Vec<u32> = (1..=5_956).collect();
     let longest = Case::new(512, 9, tags).text();
     assert_eq!(longest.len(), 65_527);
     let mut add = |text: Vec<u8>| texts.push(("the longest texts", text));
@@ -174,7 +174,8 @@ fn every_byte(tally: &mut Tally, size: &Size) {
     let texts = [
         Case::new(1, 1, []),
         Case::new(2, 9, [1, 2, 3]),
-        Case::new(512, 65_536, [0, 10, u32::MAX]),
+        Case::new(512, 65_536, [1, 10, u32::MAX]),
+        Case::new(2, 9, [0, 2, 3]),
     ];
     for text in texts.iter().map(Case::text) {
         let mut changed = text.clone();

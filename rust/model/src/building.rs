@@ -3,11 +3,14 @@
 use crate::hash::{group_of, place_of};
 use crate::image::{image_length, LARGEST_GROUP_COUNT, LARGEST_LIST};
 use crate::line::{line_of_tag, line_of_two};
-use crate::placing::{first_not_ascending, limit_is_legal, place_group, LARGEST_GROUP};
+use crate::placing::{
+    first_is_unwired, first_not_ascending, limit_is_legal, place_group, LARGEST_GROUP,
+};
 use crate::refusal::{refuse, refuse_at, Refusal};
 
 /// "**Building.** 8 [..] 4 [..] 5 [..] 6 [..] 9: buffer shorter than the image. 10 [..] 7 [..]
-/// Otherwise the image stands at the buffer's beginning and the answer is its length."
+/// Otherwise the image stands at the buffer's beginning and the answer is its length." Refusal 17
+/// comes "directly after 6" (document 02, §1).
 ///
 /// "A refusal writes nothing." "A success writes what is said here and no other byte."
 pub fn build(tags: &[u32], groups: u32, limit: u32, buffer: &mut [u8]) -> Result<usize, Refusal> {
@@ -26,7 +29,8 @@ pub fn image_of(tags: &[u32], groups: u32, limit: u32) -> Result<Vec<u8>, Refusa
     lay_out(tags, groups, limit)
 }
 
-/// "8: B not 1 to 512. 4 as above. 5: more than 4,096 tags. 6 as above."
+/// "8: B not 1 to 512. 4 as above. 5: more than 4,096 tags. 6 as above." Then "17 if the first tag is
+/// 0" (document 02, §1).
 fn examine_list(tags: &[u32], groups: u32, limit: u32) -> Result<(), Refusal> {
     if !(1..=LARGEST_GROUP_COUNT).contains(&groups) {
         return refuse(8);
@@ -39,6 +43,9 @@ fn examine_list(tags: &[u32], groups: u32, limit: u32) -> Result<(), Refusal> {
     }
     if let Some(index) = first_not_ascending(tags) {
         return refuse_at(6, index);
+    }
+    if first_is_unwired(tags) {
+        return refuse(17);
     }
     Ok(())
 }
@@ -59,7 +66,7 @@ fn lay_out(tags: &[u32], groups: u32, limit: u32) -> Result<Vec<u8>, Refusal> {
     let mut slots = Vec::new();
     for (group, part) in members.iter().enumerate() {
         let Ok((seed, word)) = place_group(part, limit) else {
-            // The limit, the size and the order are in order, so placing refused with 7.
+            // The limit, the size and the order are in order and no tag is 0: placing refused with 7.
             return refuse_at(7, group);
         };
         // "The start of a group is the number of tags in lower groups."

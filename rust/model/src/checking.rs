@@ -2,10 +2,12 @@
 
 use crate::hash::{group_of, place_of};
 use crate::image::{group_is_faulty, GroupLine, Image};
+use crate::placing::UNWIRED;
 use crate::refusal::{refuse_at, Refusal};
 
 /// "**Checking.** 11 [..] 12 at place 0 [..] 11 [..] 12: at the first malformed line. 13: at the
-/// lowest faulty group [..] 14 [..] 15 [..] Otherwise accepted. Least seeds are not examined."
+/// lowest faulty group [..] 14 [..] 15 [..] Otherwise accepted. Least seeds are not examined." Refusal
+/// 17 comes "directly after the malformed lines" (document 02, §1).
 pub fn check(image: &[u8]) -> Result<(), Refusal> {
     let image = Image::open(image)?;
     let lines: Vec<GroupLine> = (0..image.groups)
@@ -14,6 +16,11 @@ pub fn check(image: &[u8]) -> Result<(), Refusal> {
     let slots: Vec<u32> = (0..image.tags)
         .map(|slot| image.slot(slot))
         .collect::<Result<_, _>>()?;
+
+    // "at the lowest slot holding 0" (document 02, §1).
+    if let Some(slot) = slots.iter().position(|&tag| tag == UNWIRED) {
+        return refuse_at(17, slot);
+    }
 
     // The end of a group is the next start, "N after the last group".
     let end = |group: usize| lines.get(group + 1).map_or(image.tags, |next| next.start);

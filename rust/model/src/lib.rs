@@ -1,9 +1,10 @@
-//! The model: document 01, "The two-choice tag index", in plain Rust, to be read beside the paper.
+//! The model: document 01, "The two-choice tag index", in plain Rust, to be read beside the paper,
+//! with what document 02, §1, changes in it: nobody has tag 0.
 //!
-//! It is written from the paper alone and shares no code with the proved crates, so that a
-//! program can run both and compare. Where the paper leaves the method open, the model takes
-//! another one than they do: connected parts decide whether a seed serves a group, and matching
-//! finds the least choice sequence. A module is one concept, in the paper's order.
+//! It is written from the papers alone and shares no code with the proved crates, so that a
+//! program can run both and compare. Where the papers leave the method open, the model takes
+//! another one than the proved crates: connected parts decide whether a seed serves a group, and
+//! matching finds the least choice sequence. A module is one concept, in the paper's order.
 
 #![forbid(unsafe_code)]
 

@@ -2,6 +2,7 @@
 
 use crate::hash::{group_of, place_of};
 use crate::image::{group_is_faulty, Image};
+use crate::placing::UNWIRED;
 use crate::refusal::{refuse_at, Refusal};
 
 /// "So the answer is a number, unknown, or a refusal": what lookup finds unless it refuses.
@@ -16,9 +17,13 @@ pub enum Found {
 /// next group's line if there is one. 13 at that group if it is faulty in the sense above or its
 /// end exceeds N. If its size is 0 the answer is unknown."
 ///
-/// It reads no other line than the paper names.
+/// It reads no other line than the paper names, and for tag 0 none but line 0.
 pub fn lookup(image: &[u8], tag: u32) -> Result<Found, Refusal> {
     let image = Image::open(image)?;
+    // "Looking up 0 answers unknown once line 0 and the length have passed" (document 02, §1).
+    if tag == UNWIRED {
+        return Ok(Found::Unknown);
+    }
     let group = group_of(tag, image.groups as u32) as usize;
 
     let line = image.group_line(group)?;

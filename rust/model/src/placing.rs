@@ -9,8 +9,12 @@ pub const LARGEST_GROUP: usize = 24;
 /// "L is the seed limit, 1 to 65,536"
 pub const LARGEST_LIMIT: u32 = 65_536;
 
+/// "Plant numbering now reserves tag 0 for an unwired point" (document 02, §1).
+pub const UNWIRED: u32 = 0;
+
 /// "**Placing a group.** 4: L not 1 to 65,536. 5: more than 24 tags. 6: not strictly ascending
-/// [..] 7: no seed below L has a filling sequence. Otherwise seed and choice word."
+/// [..] 7: no seed below L has a filling sequence. Otherwise seed and choice word." Between 6 and 7:
+/// "17 if the first tag is 0, directly after 6 in placing and building" (document 02, §1).
 ///
 /// "An empty group has seed 0 and word 0": seed 0 serves it, since it has no place to fill.
 pub fn place_group(tags: &[u32], limit: u32) -> Result<(u32, u32), Refusal> {
@@ -22,6 +26,9 @@ pub fn place_group(tags: &[u32], limit: u32) -> Result<(u32, u32), Refusal> {
     }
     if let Some(index) = first_not_ascending(tags) {
         return refuse_at(6, index);
+    }
+    if first_is_unwired(tags) {
+        return refuse(17);
     }
     // "The search stops at the first seed that some choice sequence fills."
     match (0..limit).find(|&seed| serves(tags, seed)) {
@@ -41,6 +48,12 @@ pub fn limit_is_legal(limit: u32) -> bool {
 /// "not strictly ascending, at the first index whose tag is not above the one before."
 pub fn first_not_ascending(tags: &[u32]) -> Option<usize> {
     (1..tags.len()).find(|&index| tags[index] <= tags[index - 1])
+}
+
+/// "if the first tag is 0" (document 02, §1). The empty list has no first tag. In a list that ascends
+/// no other tag can be 0.
+pub fn first_is_unwired(tags: &[u32]) -> bool {
+    tags.first() == Some(&UNWIRED)
 }
 
 /// Both places of a tag in a group of n tags, that of choice 0 first. They may be equal.

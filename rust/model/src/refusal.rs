@@ -1,13 +1,13 @@
 //! Refusals: "A refusal carries a number and a place; the place is 0 where none is named."
 
-/// Why an operation stopped: the paper's number, 1 to 16, and the place.
+/// Why an operation stopped: the papers' number, 1 to 17, and the place.
 #[derive(Debug, Clone, Copy, PartialEq, Eq)]
 pub struct Refusal {
     pub number: u32,
     pub place: u64,
 }
 
-/// The refusal `number` where the paper names no place.
+/// The refusal `number` where the papers name no place.
 pub fn refuse<T>(number: u32) -> Result<T, Refusal> {
     Err(Refusal { number, place: 0 })
 }

@@ -30,9 +30,14 @@ impl Random {
         mixed ^ (mixed >> 31)
     }
 
-    /// The next number's lower half, as a tag.
+    /// The next number's lower half, as a tag. It is not 0, which is nobody's tag.
     pub fn tag(&mut self) -> u32 {
-        self.next_u64() as u32
+        loop {
+            match self.next_u64() as u32 {
+                0 => continue,
+                tag => return tag,
+            }
+        }
     }
 
     /// A number below `bound`, which is not 0.
@@ -50,11 +55,14 @@ impl Random {
         self.multiples(count, 1)
     }
 
-    /// So many different multiples of `step`, ascending; there must be so many.
+    /// So many different multiples of `step`, ascending, none of them 0; there must be so many.
     pub fn multiples(&mut self, count: usize, step: u32) -> Vec<u32> {
         let mut tags = BTreeSet::new();
         while tags.len() < count {
-            tags.insert(self.tag() / step * step);
+            let tag = self.tag() / step * step;
+            if tag != 0 {
+                tags.insert(tag);
+            }
         }
         tags.into_iter().collect()
     }

@@ -1,8 +1,10 @@
 //! The 64-bit answers of the C boundary, taken apart.
 //!
-//! Document 01 bounds every answer: which refusals an operation has, which places they name, how
+//! The papers bound every answer: which refusals an operation has, which places they name, how
 //! large a number is. An answer outside these bounds can only come from another library than the
 //! proved one, so taking it apart panics: there is no safe way on, and no caller could do better.
+
+use std::ops::RangeInclusive;
 
 use crate::refusal::{Reason, Refusal};
 use crate::{LARGEST_GROUP_COUNT, LARGEST_LIST, LONGEST_IMAGE, LONGEST_TEXT};
@@ -10,28 +12,39 @@ use crate::{LARGEST_GROUP_COUNT, LARGEST_LIST, LONGEST_IMAGE, LONGEST_TEXT};
 /// The answer that stands for unknown.
 pub const UNKNOWN: u64 = 4_294_967_295;
 
-/// The refusals that each operation has over the C boundary.
-const BUILDING: [Reason; 8] = [
-    Reason::MalformedList,
-    Reason::TooManyTags,
-    Reason::GroupCountOutOfRange,
-    Reason::LimitOutOfRange,
-    Reason::NotAscending,
-    Reason::BufferTooShort,
-    Reason::GroupTooLarge,
-    Reason::NoSeed,
+/// A refusal that an operation has, and the places that it can name.
+type Allowed = (Reason, RangeInclusive<u32>);
+
+const NO_PLACE: RangeInclusive<u32> = 0..=0;
+const GROUPS: RangeInclusive<u32> = 0..=LARGEST_GROUP_COUNT - 1;
+const SLOTS: RangeInclusive<u32> = 0..=LARGEST_LIST as u32 - 1;
+const LINES_OF_IMAGE: RangeInclusive<u32> = 0..=(LONGEST_IMAGE / 11) as u32 - 1;
+const LINES_OF_TEXT: RangeInclusive<u32> = 0..=(LONGEST_TEXT / 11) as u32 - 1;
+
+/// The refusals that each operation has over the C boundary, in the order in which they come.
+const BUILDING: [Allowed; 9] = [
+    (Reason::MalformedList, LINES_OF_TEXT),
+    (Reason::TooManyTags, NO_PLACE),
+    (Reason::GroupCountOutOfRange, NO_PLACE),
+    (Reason::LimitOutOfRange, NO_PLACE),
+    (Reason::NotAscending, 1..=LARGEST_LIST as u32 - 1),
+    (Reason::UnwiredTag, NO_PLACE),
+    (Reason::BufferTooShort, NO_PLACE),
+    (Reason::GroupTooLarge, GROUPS),
+    (Reason::NoSeed, GROUPS),
 ];
-const CHECKING: [Reason; 5] = [
-    Reason::WrongLength,
-    Reason::MalformedLine,
-    Reason::FaultyGroup,
-    Reason::WrongSlot,
-    Reason::RepeatedTag,
+const CHECKING: [Allowed; 6] = [
+    (Reason::WrongLength, NO_PLACE),
+    (Reason::MalformedLine, LINES_OF_IMAGE),
+    (Reason::UnwiredTag, SLOTS),
+    (Reason::FaultyGroup, GROUPS),
+    (Reason::WrongSlot, SLOTS),
+    (Reason::RepeatedTag, SLOTS),
 ];
-const LOOKUP: [Reason; 3] = [
-    Reason::WrongLength,
-    Reason::MalformedLine,
-    Reason::FaultyGroup,
+const LOOKUP: [Allowed; 3] = [
+    (Reason::WrongLength, NO_PLACE),
+    (Reason::MalformedLine, LINES_OF_IMAGE),
+    (Reason::FaultyGroup, GROUPS),
 ];
 
 /// Building's answer for a buffer of `room` bytes: the image's length, or the refusal.
@@ -82,33 +95,22 @@ pub(crate) fn found(answer: u64, count: usize) -> Option<u32> {
     }
 }
 
-/// The refusal that an answer stands for, if it is one of `reasons` at a place that it can name.
+/// The refusal that an answer stands for, if it is one of those allowed at a place that it can name.
 /// An answer without such a refusal goes back to the caller, which has bounds of its own.
-fn refusal(answer: u64, reasons: &[Reason]) -> Option<Refusal> {
+fn refusal(answer: u64, allowed: &[Allowed]) -> Option<Refusal> {
     let reason = Reason::from_number((answer >> 32) as u32)?;
     let place = answer as u32;
-    (reasons.contains(&reason) && places(reason).contains(&place))
+    allowed
+        .iter()
+        .any(|(had, places)| *had == reason && places.contains(&place))
         .then_some(Refusal { reason, place })
-}
-
-/// The places that a refusal can name over the C boundary.
-fn places(reason: Reason) -> std::ops::RangeInclusive<u32> {
-    let last_slot = LARGEST_LIST as u32 - 1;
-    match reason {
-        Reason::NotAscending => 1..=last_slot,
-        Reason::NoSeed | Reason::GroupTooLarge | Reason::FaultyGroup => 0..=LARGEST_GROUP_COUNT - 1,
-        Reason::WrongSlot | Reason::RepeatedTag => 0..=last_slot,
-        Reason::MalformedLine => 0..=(LONGEST_IMAGE / 11) as u32 - 1,
-        Reason::MalformedList => 0..=(LONGEST_TEXT / 11) as u32 - 1,
-        _ => 0..=0,
-    }
 }
 
 /// How a panic ends that only another library can cause.
 pub(crate) const WRONG_LIBRARY: &str = "the linked library is not the proved one";
 
 fn not_allowed(operation: &str, answer: u64) -> ! {
-    panic!("{operation} answered {answer}, which document 01 does not allow: {WRONG_LIBRARY}")
+    panic!("{operation} answered {answer}, which the papers do not allow: {WRONG_LIBRARY}")
 }
 
 #[cfg(test)]
@@ -137,15 +139,34 @@ mod tests {
     }
 
     #[test]
-    fn every_refusal_of_every_operation_is_taken_at_its_last_place() {
+    fn every_refusal_of_every_operation_is_taken_at_its_places_and_no_other() {
         for &reason in Reason::ALL {
-            let place = *places(reason).end();
-            let answer = refused(reason.number().into(), place.into());
-            let refusal = Refusal { reason, place };
-            assert_eq!(BUILDING.contains(&reason), built_is(answer, refusal));
-            assert_eq!(CHECKING.contains(&reason), checked_is(answer, refusal));
-            assert_eq!(LOOKUP.contains(&reason), looked_up_is(answer, refusal));
+            for place in [0, 1, 511, 512, 4_095, 4_096, 4_608, 4_609, 5_956, 5_957] {
+                let answer = refused(reason.number().into(), place.into());
+                let refusal = Refusal { reason, place };
+                let has = |allowed: &[Allowed]| {
+                    let mut places = allowed.iter().filter(|(had, _)| *had == reason);
+                    places.any(|(_, places)| places.contains(&place))
+                };
+                assert_eq!(has(&BUILDING), built_is(answer, refusal));
+                assert_eq!(has(&CHECKING), checked_is(answer, refusal));
+                assert_eq!(has(&LOOKUP), looked_up_is(answer, refusal));
+            }
         }
+    }
+
+    #[test]
+    fn refusal_17_names_the_first_tag_from_building_and_a_slot_from_checking() {
+        let unwired = |place| Refusal {
+            reason: Reason::UnwiredTag,
+            place,
+        };
+        assert_eq!(built(refused(17, 0), 0), Err(unwired(0)));
+        assert_eq!(checked(refused(17, 0)), Err(unwired(0)));
+        assert_eq!(checked(refused(17, 4_095)), Err(unwired(4_095)));
+        assert!(catch_unwind(|| built(refused(17, 1), 0)).is_err());
+        assert!(catch_unwind(|| checked(refused(17, 4_096))).is_err());
+        assert!(catch_unwind(|| looked_up(refused(17, 0))).is_err());
     }
 
     fn built_is(answer: u64, refusal: Refusal) -> bool {
@@ -161,7 +182,7 @@ mod tests {
     }
 
     #[test]
-    fn an_answer_that_document_01_does_not_allow_panics() {
+    fn an_answer_that_the_papers_do_not_allow_panics() {
         // No length: too small, no multiple of 11, longer than the buffer or than any image.
         for (answer, room) in [(0, 99), (11, 99), (23, 99), (33, 32), (50_710, 60_000)] {
             assert!(catch_unwind(|| built(answer, room)).is_err(), "{answer}");
@@ -180,7 +201,7 @@ mod tests {
         }
         // No number of a reason, a place that the reason does not name, a place out of range.
         for answer in [
-            refused(17, 0),
+            refused(18, 0),
             u64::MAX,
             refused(9, 1),
             refused(6, 0),

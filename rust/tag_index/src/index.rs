@@ -78,11 +78,13 @@ impl<'a> Index<'a> {
         })
     }
 
-    /// Looks up a tag: its number, 0 to N - 1, or nothing if the image does not have it.
+    /// Looks up a tag: its number, 0 to N - 1, or nothing if the image does not have it. No image has
+    /// tag 0.
     ///
     /// ```
     /// let index = tag_index::Index::new(b"    0    1\n    0    0\n")?;
     /// assert_eq!(index.lookup(7), None);
+    /// assert_eq!(index.lookup(0), None);
     /// # Ok::<(), tag_index::Refusal>(())
     /// ```
     ///

@@ -19,9 +19,9 @@
 //! # Ok::<(), Box<dyn std::error::Error>>(())
 //! ```
 //!
-//! # Answers that document 01 does not allow
+//! # Answers that the papers do not allow
 //!
-//! These functions panic if the library answers what document 01 does not allow, such as a
+//! These functions panic if the library answers what the papers do not allow, such as a
 //! number above 4,095 or a refusal that the operation does not have. The proved library never
 //! does; the panic tells of a wrong library, before its answer can do harm.
 
@@ -79,7 +79,8 @@ pub const fn image_length(groups: u32, count: usize) -> usize {
 
 /// Builds the image of a list text at the beginning of `image` and answers its length.
 ///
-/// The bytes behind the image stay as they were; a refusal leaves all of them as they were.
+/// The bytes behind the image stay as they were; a refusal leaves all of them as they were. A list
+/// with tag 0 is refused: plant numbering reserves it for an unwired point.
 ///
 /// ```
 /// use tag_index::Reason;
@@ -92,12 +93,16 @@ pub const fn image_length(groups: u32, count: usize) -> usize {
 ///
 /// let text = b"    1    2\n         1\n         3\n";
 /// assert_eq!(tag_index::build(text, &mut image)?, 44);
+///
+/// let text = b"    1    2\n         0\n         3\n";
+/// let refusal = tag_index::build(text, &mut image).unwrap_err();
+/// assert_eq!((refusal.reason, refusal.place), (Reason::UnwiredTag, 0));
 /// # Ok::<(), tag_index::Refusal>(())
 /// ```
 ///
 /// # Panics
 ///
-/// If the library's answer is not one that document 01 allows; the proved library's always is.
+/// If the library's answer is not one that the papers allow; the proved library's always is.
 pub fn build(text: &[u8], image: &mut [u8]) -> Result<usize, Refusal> {
     answer::built(raw::build(text, image), image.len())
 }
@@ -199,7 +204,8 @@ pub fn image_of(groups: u32, limit: u32, tags: &[u32]) -> Result<Vec<u8>, BuildE
 
 /// Checks an image of any origin: its length, every line, every group and every slot.
 ///
-/// In an accepted image each slot's tag is found there by [`lookup`], and no tag stands twice.
+/// In an accepted image each slot's tag is found there by [`lookup`], no tag stands twice, and none
+/// is 0.
 ///
 /// ```
 /// use tag_index::Reason;
@@ -208,12 +214,18 @@ pub fn image_of(groups: u32, limit: u32, tags: &[u32]) -> Result<Vec<u8>, BuildE
 /// image[0] = b'x';
 /// let refusal = tag_index::check(&image).unwrap_err();
 /// assert_eq!((refusal.reason, refusal.place), (Reason::MalformedLine, 0));
+///
+/// // Tag 3 in slot 2 becomes tag 0.
+/// let mut image = tag_index::image_of(2, 9, &[1, 2, 3])?;
+/// image[64] = b'0';
+/// let refusal = tag_index::check(&image).unwrap_err();
+/// assert_eq!((refusal.reason, refusal.place), (Reason::UnwiredTag, 2));
 /// # Ok::<(), tag_index::BuildError>(())
 /// ```
 ///
 /// # Panics
 ///
-/// If the library's answer is not one that document 01 allows; the proved library's always is.
+/// If the library's answer is not one that the papers allow; the proved library's always is.
 pub fn check(image: &[u8]) -> Result<(), Refusal> {
     answer::checked(raw::check(image))
 }
@@ -221,19 +233,21 @@ pub fn check(image: &[u8]) -> Result<(), Refusal> {
 /// Looks up a tag: its number, 0 to N - 1, or nothing if the image does not have it.
 ///
 /// The image need not be checked before. The answer depends on its length and on five lines at
-/// most, and a fault in one of these is refused.
+/// most, and a fault in one of these is refused. Nobody has tag 0: for it the length and line 0 alone
+/// are examined.
 ///
 /// ```
 /// let image = tag_index::image_of(2, 9, &[1, 2, 3])?;
 /// assert_eq!(tag_index::lookup(&image, 1)?, Some(1));
 /// assert_eq!(tag_index::lookup(&image, 7)?, None);
+/// assert_eq!(tag_index::lookup(&image, 0)?, None);
 /// assert!(tag_index::lookup(&image[..65], 1).is_err());
 /// # Ok::<(), tag_index::BuildError>(())
 /// ```
 ///
 /// # Panics
 ///
-/// If the library's answer is not one that document 01 allows; the proved library's always is.
+/// If the library's answer is not one that the papers allow; the proved library's always is.
 pub fn lookup(image: &[u8], tag: u32) -> Result<Option<u32>, Refusal> {
     answer::looked_up(raw::lookup(image, tag))
 }

@@ -32,7 +32,7 @@ impl Error for TooWide {}
 /// The list text of B groups, seed limit L and the tags, in the order given.
 ///
 /// Nothing else is examined here: [`build`](crate::build) refuses what is out of range, out of
-/// order or too much.
+/// order or too much, and tag 0.
 ///
 /// ```
 /// let text = tag_index::list_text(2, 9, &[1, 2, 3])?;

@@ -3,8 +3,8 @@
 use std::error::Error;
 use std::fmt;
 
-/// Why an operation refuses: what is the matter with its input. Document 01 numbers them 1 to 16,
-/// in this order; more can come, so a `match` needs an arm for the rest.
+/// Why an operation refuses: what is the matter with its input. Document 01 numbers them 1 to 16 and
+/// document 02, §1, 17, in this order; more can come, so a `match` needs an arm for the rest.
 ///
 /// Over the C boundary the first three never come: they belong to "place of one tag".
 #[derive(Debug, Clone, Copy, PartialEq, Eq, PartialOrd, Ord, Hash)]
@@ -43,6 +43,8 @@ pub enum Reason {
     RepeatedTag = 15,
     /// 16: a line of the list text is malformed, or its length is not a number of lines.
     MalformedList = 16,
+    /// 17: a tag is 0, which is reserved for an unwired point.
+    UnwiredTag = 17,
 }
 
 /// What a refusal's place counts, from 0. More kinds can come.
@@ -57,6 +59,8 @@ pub enum PlaceKind {
     Group,
     /// A slot of the image: slot j is line 1 + B + j.
     Slot,
+    /// From building an index in the list of tags, always 0; from checking a slot of the image.
+    IndexOrSlot,
 }
 
 impl Reason {
@@ -78,9 +82,10 @@ impl Reason {
         Reason::WrongSlot,
         Reason::RepeatedTag,
         Reason::MalformedList,
+        Reason::UnwiredTag,
     ];
 
-    /// Document 01's number of this reason, 1 to 16.
+    /// The papers' number of this reason, 1 to 17.
     ///
     /// ```
     /// assert_eq!(tag_index::Reason::NoSeed.number(), 7);
@@ -89,12 +94,12 @@ impl Reason {
         self as u32
     }
 
-    /// The reason with this number, if it is 1 to 16.
+    /// The reason with this number, if it is 1 to 17.
     ///
     /// ```
     /// use tag_index::Reason;
-    /// assert_eq!(Reason::from_number(16), Some(Reason::MalformedList));
-    /// assert_eq!(Reason::from_number(17), None);
+    /// assert_eq!(Reason::from_number(17), Some(Reason::UnwiredTag));
+    /// assert_eq!(Reason::from_number(18), None);
     /// ```
     pub fn from_number(number: u32) -> Option<Reason> {
         Reason::ALL
@@ -108,6 +113,7 @@ impl Reason {
     /// ```
     /// use tag_index::{PlaceKind, Reason};
     /// assert_eq!(Reason::NotAscending.place_kind(), Some(PlaceKind::Index));
+    /// assert_eq!(Reason::UnwiredTag.place_kind(), Some(PlaceKind::IndexOrSlot));
     /// assert_eq!(Reason::BufferTooShort.place_kind(), None);
     /// ```
     pub const fn place_kind(self) -> Option<PlaceKind> {
@@ -116,6 +122,7 @@ impl Reason {
             Reason::NotAscending => Some(PlaceKind::Index),
             Reason::NoSeed | Reason::GroupTooLarge | Reason::FaultyGroup => Some(PlaceKind::Group),
             Reason::WrongSlot | Reason::RepeatedTag => Some(PlaceKind::Slot),
+            Reason::UnwiredTag => Some(PlaceKind::IndexOrSlot),
             _ => None,
         }
     }
@@ -129,6 +136,11 @@ impl Reason {
 /// assert_eq!(
 ///     refusal.to_string(),
 ///     "refusal 6: the tag at index 1 is not above the one before it"
+/// );
+/// let refusal = Refusal { reason: Reason::UnwiredTag, place: 0 };
+/// assert_eq!(
+///     refusal.to_string(),
+///     "refusal 17: the tag at index or slot 0 is 0, which is reserved for an unwired point"
 /// );
 /// ```
 #[derive(Debug, Clone, Copy, PartialEq, Eq, Hash)]
@@ -176,6 +188,10 @@ impl fmt::Display for Refusal {
             Reason::MalformedList => write!(
                 f,
                 "line {place} of the list text is malformed, or the text is not whole lines"
+            ),
+            Reason::UnwiredTag => write!(
+                f,
+                "the tag at index or slot {place} is 0, which is reserved for an unwired point"
             ),
         }
     }

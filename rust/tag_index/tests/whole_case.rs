@@ -1,4 +1,4 @@
-//! The whole case of document 01 through the binding, the refusals that a service meets first,
+//! The whole case of document 01 through the binding, the refusals that a service meets first, tag 0,
 //! and the words in which each refusal is said.
 
 use std::error::Error;
@@ -37,7 +37,7 @@ fn a_checked_image_is_an_index_borrowed_or_owned() {
         assert_eq!(numbers, [None, Some(1), Some(0), Some(2), None, None]);
     }
     // The most tags in the most groups fill all columns of line 0 that can be filled.
-    let tags: Vec<u32> = (0..4_096).map(|tag| tag << 20 | tag).collect();
+    let tags: Vec<u32> = (0..4_096).map(|tag| (tag << 20) | (4_096 - tag)).collect();
     let index = Index::new(tag_index::image_of(512, 65_536, &tags).unwrap()).unwrap();
     assert_eq!((index.len(), index.groups()), (4_096, 512));
     assert_eq!(index.as_bytes().len(), tag_index::LONGEST_IMAGE);
@@ -82,6 +82,57 @@ fn empty_slices_are_refused() {
 }
 
 #[test]
+fn a_list_with_tag_0_is_refused_and_the_buffer_left_alone() {
+    for (tags, refused) in [
+        (&[0][..], refusal(Reason::UnwiredTag, 0)),
+        (&[0, 1, 2], refusal(Reason::UnwiredTag, 0)),
+        (&[0, 0], refusal(Reason::NotAscending, 1)),
+        (&[1, 0], refusal(Reason::NotAscending, 1)),
+    ] {
+        let mut buffer = [b'.'; 70];
+        assert_eq!(
+            tag_index::build_list(2, 9, tags, &mut buffer),
+            Err(BuildError::Refused(refused))
+        );
+        assert_eq!(buffer, [b'.'; 70]);
+    }
+    // It comes before a buffer that is too short.
+    assert_eq!(
+        tag_index::build_list(2, 9, &[0, 1], &mut []),
+        Err(BuildError::Refused(refusal(Reason::UnwiredTag, 0)))
+    );
+}
+
+#[test]
+fn an_image_with_tag_0_is_no_index_and_names_its_lowest_slot() {
+    let mut image = IMAGE.to_vec();
+    for slot in [2, 1] {
+        image[11 * (3 + slot)..][..11].copy_from_slice(b"         0\n");
+        let refused = refusal(Reason::UnwiredTag, slot as u32);
+        assert_eq!(Index::new(&image), Err(refused));
+        assert_eq!(tag_index::check(&image), Err(refused));
+        assert_eq!(tag_index::lookup(&image, 0), Ok(None));
+    }
+    // Before a group at fault, after a malformed line.
+    image[15] = b'1';
+    assert_eq!(
+        tag_index::check(&image),
+        Err(refusal(Reason::UnwiredTag, 1))
+    );
+    image[15] = b'x';
+    assert_eq!(
+        tag_index::check(&image),
+        Err(refusal(Reason::MalformedLine, 1))
+    );
+    // Nothing behind line 0 is a reason to refuse a lookup of tag 0.
+    assert_eq!(
+        tag_index::lookup(&image, 2),
+        Err(refusal(Reason::MalformedLine, 1))
+    );
+    assert_eq!(tag_index::lookup(&image, 0), Ok(None));
+}
+
+#[test]
 fn a_list_that_no_text_can_say_is_an_error() {
     for (groups, limit, error) in [
         (100_000, 9, TooWide::Groups(100_000)),
@@ -111,7 +162,7 @@ fn a_list_that_no_text_can_say_is_an_error() {
 #[test]
 fn too_many_tags_are_refused_whatever_their_number() {
     for count in [4_097, 5_957, 20_000] {
-        let tags: Vec<u32> = (0..count).collect();
+        let tags: Vec<u32> = (1..=count).collect();
         assert_eq!(
             tag_index::image_of(512, 9, &tags),
             Err(BuildError::Refused(refusal(Reason::TooManyTags, 0)))

@@ -6,7 +6,6 @@ use Prim.Native.Nat.{ℕ, _≤_}
 use lib.ListN.{length, replicate}
 use Rattle.refusal.specs.Limits.{tagsMax, groupsMax}
 use Rattle.refusal.specs.Answer.{firstMeaning}
-use Rattle.group.specs.Ascending.{limitCheck, ascendingCheck}
 use Rattle.numbering.specs.Building.{earlierChecks}
 use Rattle.order.specs.Order.{groupEnds, orderedInto}
 use Rattle.order.specs.OrderLaws.{ordered-length, unless-none}
@@ -54,7 +53,7 @@ order-by-group-requires c κs =
     ((legal start .0, legal start .1, admitted-count (start .pre)), (refl, refl))
 
 returns : tie.Need-returns
-unfolding earlierChecks limitCheck ascendingCheck
+unfolding earlierChecks
 returns c =
     let told = c .before .before in
     let ordered = told .before .before in

@@ -7,7 +7,7 @@ use Prim.Native.Nat.{ℕ, _-_, _<_}
 use native.Mathlib.Omega.{arith}
 use lib.ListN.{length}
 use Rattle.lists.specs.FirstLaws.{first-found, first-out}
-use Rattle.group.specs.Ascending.{notAbove, ascendingCheck}
+use Rattle.group.specs.Ascending.{notAbove}
 use Rattle.group.specs.AscendingLaws.{first-above, not-above, above}
 use Rattle.group.proofs.first_not_above.Statement.{statement}
 use Rattle.group.proofs.first_not_above.Tie as tie
@@ -22,7 +22,6 @@ loop-holds : tie.Need-loop-holds Inv-loop μ-loop
 loop-holds c = (omega arith, λ j lt. let first : j ≡ 0 = omega arith in rw first (first-above _))
 
 returns : tie.Need-returns Inv-loop μ-loop
-unfolding ascendingCheck
 returns c =
     let loop = c .before .before .before .before in
     let tags = loop .before .args .tags .now in
@@ -35,7 +34,6 @@ loop-again c =
     (omega arith, below-more _ _ (loop .loop .inv .1) (above (loop .before .args .tags .now) _ (loop .loop .inv .0) (c .if1 .left)))
 
 returns-2 : tie.Need-returns-2 Inv-loop μ-loop
-unfolding ascendingCheck
 returns-2 c =
     let loop = c .before in
     sym (first-out (notAbove (loop .before .args .tags .now)) _ (λ j lt. loop .loop .inv .1 j (omega (arith, c .loop-test .left))))

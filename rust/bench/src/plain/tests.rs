@@ -1,4 +1,4 @@
-//! The plain version held against the model of document 01: every operation, on whole and damaged texts.
+//! The plain version held against the model: every operation, on whole and damaged texts.
 
 use super::{build, check, lookup};
 use model::{answer_build, answer_check, answer_lookup, list_text};
@@ -58,6 +58,9 @@ fn groups_of_every_size() {
             let tags = random.tags(count);
             all_operations(&mut random, 1, limit, &tags);
             let stride = 1 << random.below(27);
+            let tags: Vec<u32> = (1..=count as u32).map(|step| step * stride).collect();
+            all_operations(&mut random, 1, limit.min(999), &tags);
+            // The same, from tag 0 on.
             let tags: Vec<u32> = (0..count as u32).map(|step| step * stride).collect();
             all_operations(&mut random, 1, limit.min(999), &tags);
         }
@@ -84,6 +87,12 @@ fn ranges_and_order() {
                 vec![1, 3],
                 vec![5, 5],
                 vec![1, 2, 9, 8, 7],
+                [1, 2, 3, 5, 7].map(|multiple| multiple << 29).to_vec(),
+                (1..=25).collect(),
+                // Tag 0: alone, with 6, with 7 and with 10.
+                vec![0],
+                vec![0, 0],
+                vec![0, 7, 7],
                 vec![0, 1_073_741_824, 3_221_225_472],
                 (0..25).collect(),
             ] {
@@ -105,7 +114,8 @@ fn damaged_texts() {
         let count = random.below(12);
         let mut tags = random.tags(count);
         if round % 2 == 0 {
-            tags = (0..count as u32).collect();
+            let first = u32::from(round % 16 != 0);
+            tags = (first..first + count as u32).collect();
         }
         let mut text = list_text(groups, 99, &tags);
         let mut image = vec![0; 11 * (1 + groups as usize + count)];
@@ -113,8 +123,12 @@ fn damaged_texts() {
         for damaged in [&mut text, &mut image] {
             for _ in 0..1 + random.below(2) {
                 let at = random.below(damaged.len());
-                match random.below(8) {
+                match random.below(9) {
                     0 => damaged.truncate(at + 1),
+                    // Tag 0 in some line.
+                    8 if at / 11 * 11 + 11 <= damaged.len() => {
+                        damaged[at / 11 * 11..][..11].copy_from_slice(b"         0\n");
+                    }
                     1 => {
                         // One line over another: groups at fault, misplaced and repeated tags.
                         let from = random.below(damaged.len() / 11 + 1) * 11;
@@ -129,6 +143,7 @@ fn damaged_texts() {
         }
         built(&text, 200);
         if answer >> 32 == 0 {
+            tags.push(0);
             checked_and_looked_up(&image, &tags);
         }
     }

@@ -4,7 +4,7 @@
 use super::Output;
 
 pub fn write(output: &mut Output) {
-    let texts: [(&str, &[u8]); 8] = [
+    let texts: [(&str, &[u8]); 9] = [
         (
             "whole case",
             b"    2    9\n         1\n         2\n         3\n",
@@ -19,6 +19,10 @@ pub fn write(output: &mut Output) {
         (
             "tag 2 after tag 3",
             b"    2    9\n         1\n         3\n         2\n",
+        ),
+        (
+            "a list with tag 0",
+            b"    2    9\n         0\n         1\n         2\n",
         ),
         (
             "buffer of 77 for an image of 88 bytes",
@@ -54,7 +58,7 @@ fn long_texts(output: &mut Output) {
 }
 
 fn images(output: &mut Output) {
-    let images: [(&str, &[u8]); 6] = [
+    let images: [(&str, &[u8]); 8] = [
         (
             "whole image",
             b"    3    2\n    0    0\n    1    1\n         2\n         1\n         3\n",
@@ -76,10 +80,18 @@ fn images(output: &mut Output) {
             "tag twice",
             b"    3    2\n    0    0\n    1    1\n         2\n         3\n         3\n",
         ),
+        (
+            "tag 0 in slot 0",
+            b"    3    2\n    0    0\n    1    1\n         0\n         1\n         3\n",
+        ),
+        (
+            "tag 0 in slot 2",
+            b"    3    2\n    0    0\n    1    1\n         2\n         1\n         0\n",
+        ),
     ];
     for (name, image) in images {
         output.words(format!("{name}: {}\n", model::answer_check(image)));
-        for tag in 1..=4 {
+        for tag in 0..=4 {
             let answer = model::answer_lookup(image, tag);
             output.words(format!("  lookup of {tag}: {answer}\n"));
         }

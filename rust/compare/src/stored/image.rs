@@ -102,6 +102,47 @@ pub fn write(output: &mut Output) {
             "tag twice, first at its second place",
             "    2    1\n    0    0\n         6\n         6\n",
         ),
+        // 17, in its place or not; behind 12, before 13, 14 and 15.
+        (
+            "tag 0 in slot 0",
+            "    3    2\n    0    0\n    1    1\n         0\n         1\n         3\n",
+        ),
+        (
+            "tag 0 in slot 2",
+            "    3    2\n    0    0\n    1    1\n         2\n         1\n         0\n",
+        ),
+        (
+            "tag 0 in slots 1 and 2",
+            "    3    2\n    0    0\n    1    1\n         2\n         0\n         0\n",
+        ),
+        (
+            "tag 0 at its place, beside one tag",
+            "    2    1\n    0    0\n         0\n2147483648\n",
+        ),
+        (
+            "tag 0, last slot malformed",
+            "    3    2\n    0    0\n    1    1\n         2\n         0\n        03\n",
+        ),
+        (
+            "tag 0, own line malformed",
+            "    3    2\n    0   00\n    1    1\n         2\n         1\n         0\n",
+        ),
+        (
+            "tag 0, first start 1",
+            "    3    2\n    1    0\n    1    1\n         2\n         0\n         3\n",
+        ),
+        (
+            "tag 0, start past N",
+            "    3    2\n    0    0\n    4    1\n         2\n         1\n         0\n",
+        ),
+        (
+            "tag 0 behind a tag of another group",
+            "    3    2\n    0    0\n    1    1\n         3\n         1\n         0\n",
+        ),
+        (
+            "tag 0 before a tag twice",
+            "    3    2\n    0    0\n    1    1\n         0\n         3\n         3\n",
+        ),
     ];
     for (name, image) in cases {
         output.words(format!("{name}: "));

@@ -4,7 +4,7 @@ use super::Output;
 
 pub fn write(output: &mut Output) {
     for (n, seed, choice, tag) in [
-        // Worked values 1 and 3, and the ends of each range.
+        // Worked values 1 and 3, and the ends of each range; tag 0 too has a place.
         (2, 0, 0, 1),
         (2, 0, 0, 2),
         (2, 1, 0, 1),
@@ -13,6 +13,7 @@ pub fn write(output: &mut Output) {
         (2, 1, 1, 3),
         (24, 65_535, 1, u32::MAX),
         (1, 0, 0, 0),
+        (24, 65_535, 1, 0),
         // The refusals 1, 2, 3, and that the first condition met decides.
         (0, 0, 0, 7),
         (25, 0, 0, 7),

@@ -3,11 +3,12 @@
 use super::Output;
 
 pub fn write(output: &mut Output) {
-    let cases: [(&str, usize); 16] = [
+    let cases: [(&str, usize); 17] = [
         ("    2    9\n         1\n         2\n         3\n", 5),
         ("    2    9\n         1\n         2\n         3\n", 3),
         ("    1    1\n", 0),
         ("99999    0\n4294967295\n         0\n", 3),
+        ("    2    9\n         0\n         1\n", 3),
         ("", 5),
         ("    2    9", 5),
         ("    2    9\n         1\n ", 5),

@@ -1,4 +1,4 @@
-//! The cases of `cases_placing`: the traps, the seed limit, sizes and each refusal.
+//! The cases of `cases_placing`: the traps, the seed limit, sizes, each refusal, and tag 0.
 
 use super::Output;
 
@@ -6,8 +6,9 @@ pub fn write(output: &mut Output) {
     // 24 tags pass to the search, 25 do not: one less than each power of two from 4 on.
     let full: Vec<u32> = (2..26).map(|power| (1 << power) - 1).collect();
     let fuller: Vec<u32> = (2..27).map(|power| (1 << power) - 1).collect();
-    let cases: [(&[u32], u32); 22] = [
-        (&[0, 2, 3_044_110_112], 9),
+    let from_0: Vec<u32> = (0..25).collect();
+    let cases: [(&[u32], u32); 32] = [
+        (&[13, 57, 61], 9),
         (&[81, 134, 298, 325], 1),
         (&[14, 337_764_173, 964_266_638, 2_787_973_142], 9),
         (&[599, 1_193], 1),
@@ -29,6 +30,17 @@ pub fn write(output: &mut Output) {
         (&[9, 5], 1),
         (&[1, 2, 3, 2, 1], 0),
         (&[1, 2, 3, 2, 1], 1),
+        // 17: alone, before 7, behind 4, 5 and 6.
+        (&[0], 1),
+        (&[0, 2_147_483_648], 1),
+        (&[0, 1_073_741_824], 1),
+        (&[0, 1_073_741_824, 3_221_225_472], 1),
+        (&[0, 3], 0),
+        (&[0, 3], 65_537),
+        (&from_0, 65_536),
+        (&[0, 0], 1),
+        (&[0, 7, 7], 9),
+        (&[7, 0], 9),
     ];
     for (tags, limit) in cases {
         output.words("tags");

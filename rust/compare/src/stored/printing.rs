@@ -9,7 +9,7 @@ const LONGEST_IMAGE: usize = 50_699;
 
 pub fn write(output: &mut Output) {
     let group_of_25 = model::list_text(1, 9, &(1..=25).collect::<Vec<u32>>());
-    let cases: [(&str, &[u8]); 12] = [
+    let cases: [(&str, &[u8]); 14] = [
         (
             "whole case",
             b"    2    9\n         1\n         2\n         3\n",
@@ -27,6 +27,11 @@ pub fn write(output: &mut Output) {
             "tag 2 after tag 3",
             b"    2    9\n         1\n         3\n         2\n",
         ),
+        (
+            "a list with tag 0",
+            b"    2    9\n         0\n         1\n         2\n",
+        ),
+        ("tag 0 twice", b"    2    9\n         0\n         0\n"),
         (
             "a seed above 0 with L = 1",
             b"    2    1\n         1\n         2\n         3\n",

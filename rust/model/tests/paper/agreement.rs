@@ -71,8 +71,8 @@ fn in_large_groups_parts_and_matching_agree_and_the_word_fills() {
     let mut served = 0;
     for n in 13..=24 {
         for step in STEPS {
-            if step == 1 << 28 && n > 16 {
-                continue; // There are only 16 such tags.
+            if step == 1 << 28 && n > 15 {
+                continue; // There are only 15 such tags.
             }
             let tags = random.multiples(n, step);
             for seed in 0..400 {
@@ -92,7 +92,7 @@ fn in_large_groups_parts_and_matching_agree_and_the_word_fills() {
 fn an_empty_group_and_a_single_tag_take_seed_0_and_word_0() {
     for limit in [1, 65_536] {
         assert_eq!(place_group(&[], limit), Ok((0, 0)));
-        for tag in [0, 1, 77, u32::MAX] {
+        for tag in [1, 2, 77, u32::MAX] {
             assert_eq!(place_group(&[tag], limit), Ok((0, 0)));
         }
     }

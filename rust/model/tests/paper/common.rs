@@ -47,8 +47,16 @@ pub fn fills(tags: &[u32], seed: u32, word: u32) -> bool {
 
 /// 24 tags that no seed serves: multiples of 2^27, for which only the seed's last three bits count.
 pub fn group_without_seed() -> Vec<u32> {
-    (0..24).map(|k| k << 27).collect()
+    (1..=24).map(|k| k << 27).collect()
 }
+
+/// Five tags that no seed serves, since place 2 is never reached: multipliers are odd, so an odd
+/// multiple of 2^29 stays one, and has the place 0, 1, 3 or 4; two times 2^29 has the place 1 or 3.
+pub const WITHOUT_PLACE_2: [u32; 5] = [1 << 29, 2 << 29, 3 << 29, 5 << 29, 7 << 29];
+
+/// Six tags that no seed serves though every place is touched: the four odd multiples of 2^29 and
+/// four times 2^29 have only the places 0, 2, 3 and 5, four places for five tags.
+pub const FIVE_ON_FOUR_PLACES: [u32; 6] = [1 << 29, 2 << 29, 3 << 29, 4 << 29, 5 << 29, 7 << 29];
 
 /// The first tags of a group, from tag 1 on.
 pub fn tags_of_group(group: u32, groups: u32, count: usize) -> Vec<u32> {

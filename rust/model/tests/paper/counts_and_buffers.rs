@@ -41,7 +41,7 @@ fn a_list_may_hold_4096_tags_and_not_4097() {
 
 #[test]
 fn group_counts_1_and_512_are_legal_and_0_and_513_are_not() {
-    let tags = [0, 4_294_967_295];
+    let tags = [1, 4_294_967_295];
     for groups in [1, 2, 511, 512] {
         let image = image_of(&tags, groups, 9).unwrap();
         assert_eq!(image.len(), 11 * (1 + groups as usize + 2));
@@ -58,10 +58,10 @@ fn empty_groups_start_where_the_next_one_does_and_have_seed_0() {
         image_of(&[], 3, 1).unwrap(),
         b"    0    3\n    0    0\n    0    0\n    0    0\n"
     );
-    // Tag 0 falls in group 0, whatever B is.
+    // Tag 2 falls in group 0, and the groups behind it start at 1.
     assert_eq!(
-        image_of(&[0], 3, 1).unwrap(),
-        b"    1    3\n    0    0\n    1    0\n    1    0\n         0\n"
+        image_of(&[2], 3, 1).unwrap(),
+        b"    1    3\n    0    0\n    1    0\n    1    0\n         2\n"
     );
 }
 
@@ -100,12 +100,13 @@ fn a_buffer_that_is_one_byte_short_is_refused_and_kept() {
 #[test]
 fn every_refusal_of_building_leaves_the_buffer_as_it_was() {
     let ascending: Vec<u32> = (1..=25).collect();
-    let too_many: Vec<u32> = (0..4_097).collect();
-    let cases: [(&[u32], u32, u32, u32); 6] = [
+    let too_many: Vec<u32> = (1..=4_097).collect();
+    let cases: [(&[u32], u32, u32, u32); 7] = [
         (&[1], 0, 1, 8),
         (&[1], 1, 0, 4),
         (&too_many, 1, 1, 5),
         (&[5, 5], 1, 1, 6),
+        (&[0, 5], 1, 1, 17),
         (&ascending, 1, 1, 10),
         (&group_without_seed(), 1, 65_536, 7),
     ];

@@ -214,12 +214,12 @@ fn lookup_refuses_with_12_at_its_group_line_and_then_at_the_next() {
     let image = image_of(&[], 3, 1).unwrap();
     let both = with_line(&image, 1, b"          \n");
     let both = with_line(&both, 2, b"          \n");
-    assert_eq!(group_of(0, 3), 0);
-    assert_eq!(lookup(&both, 0), Err(refusal(12, 1)));
+    assert_eq!(group_of(2, 3), 0);
+    assert_eq!(lookup(&both, 2), Err(refusal(12, 1)));
     let next = with_line(&image, 2, b"    065536\n");
-    assert_eq!(lookup(&next, 0), Err(refusal(12, 2)));
+    assert_eq!(lookup(&next, 2), Err(refusal(12, 2)));
     // The last group has no next line.
-    let last = (0..).find(|&tag| group_of(tag, 3) == 2).unwrap();
+    let last = (1..).find(|&tag| group_of(tag, 3) == 2).unwrap();
     assert_eq!(lookup(&both, last), Ok(Found::Unknown));
     let own = with_line(&image, 3, b"          \n");
     assert_eq!(lookup(&own, last), Err(refusal(12, 3)));

@@ -64,7 +64,7 @@ fn a_list_text_is_read_with_its_tags_in_their_order() {
     };
     assert_eq!(read_list(WHOLE_CASE_TEXT, 3), list(2, 9, &[1, 2, 3]));
     assert_eq!(read_list(b"    0    0\n", 0), list(0, 0, &[]));
-    // Legal at this stage: any B and L of five columns, and any order of the tags.
+    // Legal at this stage: any B and L of five columns, any order of the tags, and tag 0.
     let text = b"9999999999\n4294967295\n         0\n         0\n";
     assert_eq!(
         read_list(text, 4_096),

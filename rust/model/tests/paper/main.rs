@@ -1,4 +1,5 @@
-//! The model held against document 01: worked values, traps, refusals, edges and agreement.
+//! The model held against document 01 and document 02, §1: worked values, traps, refusals, edges,
+//! agreement and tag 0.
 
 mod agreement;
 mod common;
@@ -9,4 +10,5 @@ mod lists;
 mod printer_and_boundary;
 mod refusals;
 mod traps;
+mod unwired;
 mod worked_values;

@@ -19,7 +19,7 @@ fn text_of(length: usize) -> Vec<u8> {
 
 #[test]
 fn the_printer_writes_one_line_for_each_refusal() {
-    let cases: [(Vec<u8>, &[u8]); 11] = [
+    let cases: [(Vec<u8>, &[u8]); 12] = [
         (b"".to_vec(), b"   16    0\n"),
         (b"    1    1".to_vec(), b"   16    0\n"),
         (
@@ -32,6 +32,7 @@ fn the_printer_writes_one_line_for_each_refusal() {
         (list_text(1, 0, &[1, 1]), b"    4    0\n"),
         (list_text(1, 65_537, &[]), b"    4    0\n"),
         (list_text(1, 1, &[5, 5]), b"    6    1\n"),
+        (list_text(1, 1, &[0, 5]), b"   17    0\n"),
         (
             list_text(1, 1, &(1..26).collect::<Vec<u32>>()),
             b"   10    0\n",
@@ -45,7 +46,7 @@ fn the_printer_writes_one_line_for_each_refusal() {
 
 #[test]
 fn the_printer_writes_the_image_that_building_gives() {
-    let tags: Vec<u32> = (0..500).map(|k| k * 8_000_009).collect();
+    let tags: Vec<u32> = (1..=500).map(|k| k * 8_000_009).collect();
     let image = image_of(&tags, 100, 65_536).unwrap();
     assert_eq!(print_index(&list_text(100, 65_536, &tags)), image);
 }
@@ -93,6 +94,10 @@ fn the_building_call_answers_the_length_or_the_refusal() {
         refused(6, 1)
     );
     assert_eq!(
+        answer_build(&list_text(1, 1, &[0, 5]), &mut []),
+        refused(17, 0)
+    );
+    assert_eq!(
         answer_build(&list_text(1, 1, &[1, 3]), &mut [0; 44]),
         refused(7, 0)
     );
@@ -106,6 +111,8 @@ fn the_checking_call_answers_0_or_the_refusal() {
     assert_eq!(answer_check(&swapped), refused(15, 2));
     let malformed = with_line(WHOLE_CASE_IMAGE, 5, b"        \r\n\n");
     assert_eq!(answer_check(&malformed), refused(12, 5));
+    let unwired = with_line(WHOLE_CASE_IMAGE, 5, b"         0\n");
+    assert_eq!(answer_check(&unwired), refused(17, 2));
 }
 
 #[test]
@@ -115,6 +122,7 @@ fn the_lookup_call_answers_the_number_unknown_or_the_refusal() {
         [0, 1, 2]
     );
     assert_eq!(answer_lookup(WHOLE_CASE_IMAGE, 4), 4_294_967_295);
+    assert_eq!(answer_lookup(WHOLE_CASE_IMAGE, 0), 4_294_967_295);
     assert_eq!(answer_lookup(&WHOLE_CASE_IMAGE[..65], 4), refused(11, 0));
     let malformed = with_line(WHOLE_CASE_IMAGE, 4, b"          \n");
     assert_eq!(answer_lookup(&malformed, 3), refused(12, 4));

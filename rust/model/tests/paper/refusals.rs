@@ -22,7 +22,7 @@ fn placing_refuses_with_4_then_5_then_6_then_7() {
     assert_eq!(place_group(&[5; 25], 65_537), Err(refusal(4, 0)));
     assert_eq!(place_group(&[5; 25], 1), Err(refusal(5, 0)));
     assert_eq!(place_group(&[5; 24], 1), Err(refusal(6, 1)));
-    let no_seed_and_not_ascending = [0, 1_073_741_824, 1_073_741_824];
+    let no_seed_and_not_ascending = [1, 1_073_741_824, 1_073_741_824];
     assert_eq!(
         place_group(&no_seed_and_not_ascending, 1),
         Err(refusal(6, 2))
@@ -39,8 +39,8 @@ fn refusal_6_names_the_first_index_that_is_not_above_the_one_before() {
     assert_eq!(place_group(&[7, 6], 9), Err(refusal(6, 1)));
     // 2 is above the tag before it, though not above all before.
     assert_eq!(image_of(&[3, 1, 2, 2], 1, 9), Err(refusal(6, 1)));
-    let mut tags: Vec<u32> = (0..4_096).collect();
-    tags[4_095] = 4_094;
+    let mut tags: Vec<u32> = (1..=4_096).collect();
+    tags[4_095] = 4_095;
     assert_eq!(image_of(&tags, 512, 1), Err(refusal(6, 4_095)));
 }
 

@@ -59,7 +59,7 @@ fn the_same_two_places_in_opposite_order_are_a_cycle_too() {
 #[test]
 fn three_tags_on_two_places_cannot_be_filled() {
     // The cycle is legal; one more tag on its two places is too many.
-    let tags = [0, 1_073_741_824, 3_221_225_472];
+    let tags = [13, 1_073_741_824, 3_221_225_472];
     assert_eq!(places(&tags, 0), [[0, 0], [0, 2], [2, 0]]);
     assert!(!serves(&tags, 0));
     assert_eq!(least_word(&tags, 0), None);
@@ -96,11 +96,12 @@ fn a_tag_with_equal_places_touches_one_place() {
 
 #[test]
 fn an_eviction_chain_may_pass_a_tag_twice_and_still_succeed() {
-    let tags = [0, 2, 3_044_110_112];
+    let tags = [13, 57, 61];
     assert_eq!(places(&tags, 1), [[0, 0], [0, 1], [1, 2]]);
     assert!(serves(&tags, 1));
     assert_eq!(least_word(&tags, 1), Some(0b110));
-    // The last tag's chain moves the last, 2, 0, 2 again and the last again: five moves, three tags.
+    assert_eq!(place_group(&tags, 9), Ok((1, 0b110)));
+    // The last tag's chain moves 61, 57, 13, 57 again and 61 again: five moves, three tags.
     assert_eq!(eviction(&tags, 1, tags.len()), None);
     assert_eq!(eviction(&tags, 1, 2 * tags.len()), Some(0b110));
 }

@@ -32,24 +32,29 @@ fn value_3_tags_1_and_3_have_seed_1_and_word_2() {
     assert!(fills(&[1, 3], 1, 3));
 }
 
+// "The two small cases of document 01 with 0 and one other tag, and the one that no seed can fill,
+// become refusals of this kind." (document 02, §1)
+
 #[test]
-fn value_4_tags_0_and_half_have_seed_0_and_word_0() {
-    assert_eq!(place_group(&[0, 2_147_483_648], 1), Ok((0, 0)));
+fn value_4_tags_0_and_half_are_refused_with_17() {
+    assert_eq!(place_group(&[0, 2_147_483_648], 1), Err(refusal(17, 0)));
+    assert_eq!(image_of(&[0, 2_147_483_648], 1, 1), Err(refusal(17, 0)));
 }
 
 #[test]
-fn value_5_tags_0_and_a_quarter_have_seed_0_and_word_2() {
-    assert_eq!(place_group(&[0, 1_073_741_824], 1), Ok((0, 2)));
+fn value_5_tags_0_and_a_quarter_are_refused_with_17() {
+    assert_eq!(place_group(&[0, 1_073_741_824], 1), Err(refusal(17, 0)));
+    assert_eq!(image_of(&[0, 1_073_741_824], 1, 1), Err(refusal(17, 0)));
 }
 
 #[test]
-fn value_6_three_quarter_tags_have_no_seed_under_any_limit() {
+fn value_6_three_quarter_tags_are_refused_with_17_under_every_limit() {
     let tags = [0, 1_073_741_824, 3_221_225_472];
-    for limit in [1, 2, 3, 4, 9, 100, 1_000, 32_768, 65_535, 65_536] {
-        assert_eq!(place_group(&tags, limit), Err(refusal(7, 0)));
-        assert_eq!(image_of(&tags, 1, limit), Err(refusal(7, 0)));
+    for limit in 1..=65_536 {
+        assert_eq!(place_group(&tags, limit), Err(refusal(17, 0)));
+        assert_eq!(image_of(&tags, 1, limit), Err(refusal(17, 0)));
     }
-    // "since place 1 is never reached."
+    // "since place 1 is never reached": 7 would be due too, and comes later.
     for seed in 0..65_536 {
         for choice in 0..2 {
             for tag in tags {

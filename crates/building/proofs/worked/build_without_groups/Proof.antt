@@ -4,7 +4,6 @@ use native.Mathlib.Omega.{arith}
 use Rattle.refusal.specs.Limits.{groupsMax}
 use Rattle.refusal.specs.LimitsLaws.{outside-below}
 use Rattle.refusal.specs.ChecksLaws.{met-true}
-use Rattle.group.specs.Ascending.{limitCheck, ascendingCheck}
 use Rattle.numbering.specs.Building.{earlierChecks}
 use Rattle.numbering.specs.BuildingLaws.{building-refused, buffer-kept}
 use borrow.Author.Needs.{needs}
@@ -12,7 +11,7 @@ use Rattle.building.proofs.worked.build_without_groups.Statement.{state
 use Rattle.building.proofs.worked.build_without_groups.Tie as tie
 
 returns : tie.Need-returns
-unfolding earlierChecks limitCheck ascendingCheck
+unfolding earlierChecks
 returns c =
     let built = c .before .before in
     let a = built .before .before .before .before .args in

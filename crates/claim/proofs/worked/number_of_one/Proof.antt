@@ -16,7 +16,8 @@ use Rattle.filling.specs.Filling.{placeBy}
 use Rattle.filling.specs.Least.{beginning, leastFrom, least, feasible}
 use Rattle.filling.specs.Word.{choiceNumber}
 use Rattle.group.specs.Group.{bothPlaces, candidates, leastSeed, taken}
-use Rattle.group.specs.Ascending.{limitCheck, notAbove, ascendingCheck}
+use Rattle.group.specs.Ascending.{notAbove}
+use Rattle.group.specs.Unwired.{startsUnwired}
 use Rattle.image.specs.Sheet.{imageLength}
 use Rattle.image.specs.Lookup.{number, unknown}
 use Rattle.numbering.specs.Members.{select, members, startOf}
@@ -29,7 +30,7 @@ use Rattle.claim.proofs.worked.number_of_one.Tie as tie
 computed : claimOf (1 ∷ 2 ∷ []) 1 1 44 1 ≡ answered (number 1)
 unfolding orElse outside followedBy first metAt isSome met inOrder product highPart hashed groupOf multiplier
     placeOf occurs placeBy beginning leastFrom least feasible choiceNumber bothPlaces candidates leastSeed taken
-    limitCheck notAbove ascendingCheck imageLength select members startOf choiceOf placeIn numberOf seedTaken
+    notAbove startsUnwired imageLength select members startOf choiceOf placeIn numberOf seedTaken
     choicesTaken buildingChecks earlierChecks buildingOf foundIn claimOf
 computed = refl
 

@@ -16,15 +16,16 @@ use Rattle.filling.specs.Filling.{placeBy}
 use Rattle.filling.specs.Least.{beginning, leastFrom, least, feasible}
 use Rattle.filling.specs.Word.{choiceNumber, wordOf}
 use Rattle.group.specs.Group.{bothPlaces, candidates, leastSeed, taken}
-use Rattle.group.specs.Ascending.{limitCheck, notAbove, ascendingCheck}
+use Rattle.group.specs.Ascending.{notAbove}
+use Rattle.group.specs.Unwired.{startsUnwired}
 use Rattle.group.specs.Placing.{Placement, placingChecks, placementOf, placingOf}
 use Rattle.placing.proofs.worked.placement_of_one_and_three.Statement.{statement}
 use Rattle.placing.proofs.worked.placement_of_one_and_three.Tie as tie
 
 computed : placingOf (1 ∷ 3 ∷ []) 2 ≡ answered (record { seed = 1; word = 2 })
 unfolding orElse outside first metAt isSome met inOrder product highPart hashed multiplier placeOf occurs placeBy
-    beginning leastFrom least feasible choiceNumber wordOf bothPlaces candidates leastSeed taken limitCheck notAbove
-    ascendingCheck placingChecks placementOf placingOf
+    beginning leastFrom least feasible choiceNumber wordOf bothPlaces candidates leastSeed taken notAbove startsUnwired
+    placingChecks placementOf placingOf
 computed = refl
 
 -- What an answer says.

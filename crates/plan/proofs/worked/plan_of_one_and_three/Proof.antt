@@ -16,6 +16,7 @@ use Rattle.filling.specs.Least.{beginning, leastFrom, least, feasible}
 use Rattle.filling.specs.Word.{choiceNumber, wordOf}
 use Rattle.group.specs.Group.{bothPlaces, candidates, leastSeed, taken}
 use Rattle.group.specs.Ascending.{Ascending}
+use Rattle.group.specs.Unwired.{FirstWired}
 use Rattle.group.specs.Placing.{placementOf}
 use Rattle.numbering.specs.Parts.{partStart, partOf}
 use Rattle.plan.specs.Plan.{unseeded, partSeed, partWord, cellsPlanned, Plannable}
@@ -48,6 +49,7 @@ plannable = record {
   ascending =
       only (λ g. Ascending (partOf tags ends g))
       (λ i within. only (λ i. getD tags i 0 < getD tags (suc i) 0) (omega arith) i (omega arith));
+  wired = only (λ g. FirstWired (partOf tags ends g)) (λ some. omega arith);
 }
 
 -- `unfolding computed` opens every definition that these compute through.
