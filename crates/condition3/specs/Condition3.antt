@@ -75,7 +75,8 @@ pub record Accepted (tags : List ℕ) (groups limit : ℕ) (after : List ℕ) (s
   pub number-below : (t : ℕ) → occurs t tags ≡ true → numberOf groups tags seed choices t < length tags
   pub number-once : (j : ℕ) → j < length tags → TagOf tags (numberOf groups tags seed choices) j
   -- "for every tag there is, lookup in the written image answers the tag's number if it is in the list, and unknown if it is not"
-  pub listed : (t : ℕ) → t < tagEnd → occurs t tags ≡ true → lookupOf (take size after) t ≡ answered (number (numberOf groups tags seed choices t))
+  pub listed : (t : ℕ) → t < tagEnd → occurs t tags ≡ true
+      → lookupOf (take size after) t ≡ answered (number (numberOf groups tags seed choices t))
   pub unlisted : (t : ℕ) → t < tagEnd → occurs t tags ≡ false → lookupOf (take size after) t ≡ answered unknown
 
 pub record Condition3 (tags : List ℕ) (groups limit room : ℕ) (answer : Outcome ℕ) (after : List ℕ) : Type 0 where
@@ -86,4 +87,5 @@ pub record Condition3 (tags : List ℕ) (groups limit room : ℕ) (answer : Outc
   -- which such a sequence exists, and the refusal names the lowest such group."
   pub refused-7 : EarlierChecks tags groups limit room → (g : ℕ) → (answer ≡ refused 7 g) ↔ LowestWithout groups tags limit g
   -- and otherwise it is accepted.
-  pub otherwise : EarlierChecks tags groups limit room → ((g : ℕ) → LowestWithout groups tags limit g → ⊥) → answer ≡ answered (11 * (1 + groups + length tags))
+  pub otherwise : EarlierChecks tags groups limit room → ((g : ℕ) → LowestWithout groups tags limit g → ⊥)
+      → answer ≡ answered (11 * (1 + groups + length tags))

@@ -43,7 +43,8 @@ pub record Taken (tags : List ℕ) (groups : ℕ) (image : List ℕ) : Type 0 wh
   pub choices : ℕ → List Bool
   pub line : (g : ℕ) → g < groups → lineAt (suc g) image ≡ pairLine (startOf groups g tags) (seed g)
 
-module _ {tags : List ℕ} {groups limit room : ℕ} {answer : Outcome ℕ} {after : List ℕ} (c : Condition3 tags groups limit room answer after) where
+module _ {tags : List ℕ} {groups limit room : ℕ} {answer : Outcome ℕ} {after : List ℕ}
+    (c : Condition3 tags groups limit room answer after) where
   -- What holds of an accepted building. `size` is its answer, and the written image the buffer's first bytes, as many.
   module _ (size : ℕ) (e : answer ≡ answered size) where
     accepted : Accepted tags groups limit after size
@@ -68,7 +69,8 @@ module _ {tags : List ℕ} {groups limit room : ℕ} {answer : Outcome ℕ} {aft
     sequence-places = accepted .fills
 
     -- "Among filling sequences the least is taken".
-    pub sequence-least : (g : ℕ) → g < groups → (other : List Bool) → Places tags groups g ((taken .seed) g) other → NotAfter ((taken .choices) g) other
+    pub sequence-least : (g : ℕ) → g < groups → (other : List Bool) → Places tags groups g ((taken .seed) g) other
+        → NotAfter ((taken .choices) g) other
     unfolding taken
     sequence-least = accepted .least
 
@@ -204,6 +206,7 @@ module _ {tags : List ℕ} {groups limit room : ℕ} {answer : Outcome ℕ} {aft
         let (below, without, lower) = (refused-exactly g) .0 is in
         (below, λ has. without (has .0) (has .1) (has .2 .0) (has .2 .1), λ h none-there. not-lower lower h none-there (ltb h g) refl)
       where
-        not-lower : ((h : ℕ) → h < g → Seed tags groups limit h) → (h : ℕ) → (Seed tags groups limit h → ⊥) → (b : Bool) → ltb h g ≡ b → g ≤ h
+        not-lower : ((h : ℕ) → h < g → Seed tags groups limit h) → (h : ℕ) → (Seed tags groups limit h → ⊥)
+            → (b : Bool) → ltb h g ≡ b → g ≤ h
         not-lower lower h none-there true e = absurd (none-there (lower h (ltb-true h g e)))
         not-lower lower h none-there false e = ltb-false h g e

@@ -1,8 +1,7 @@
 -- Condition 3 holds of building as it is defined, for every list, group count, seed limit and buffer. Assumes nothing.
 use mathlib.Core.Path.{_≡_, refl, sym, _∙_}
-use mathlib.Core.Logic.{inl, inr}
 use mathlib.Core.Bool.{Bool, true, false, cond}
-use mathlib.Core.List.{List, [], _∷_}
+use mathlib.Core.List.{List}
 use mathlib.Core.Option.{Option, none, some}
 use Prim.Native.Nat.{ℕ, _+_, _-_, _*_, _<_}
 use native.Mathlib.Omega.{arith}
@@ -15,7 +14,7 @@ use Rattle.refusal.specs.Outcome.{answered, refused}
 use Rattle.lists.specs.First.{first, isSome}
 use Rattle.lists.specs.FirstLaws.{first-some, first-none, first-found, first-out, none-of-isSome}
 use Rattle.refusal.specs.Checks.{Check, met, Pass}
-use Rattle.refusal.specs.ChecksLaws.{_then_, met-false, false-of-met, Met, passed, pass-split, met-behind, inOrder-pass}
+use Rattle.refusal.specs.ChecksLaws.{_then_, met-false, false-of-met, passed, pass-split, met-alone, inOrder-pass}
 use Rattle.refusal.specs.ChecksLaws.{inOrder-answered, inOrder-refused}
 use Rattle.text.specs.Line.{lineLength}
 use Rattle.lists.specs.Occurs.{occurs}
@@ -132,11 +131,7 @@ module _ (tags : List ℕ) (groups limit : ℕ) where
     unfolding buildingOf buildingChecks earlierChecks
     first-of-seven g e =
         let met = inOrder-refused (buildingChecks tags groups limit room) (imageLength groups (length tags)) e in
-        go (met-behind earlier ((7, first (seedless groups tags limit) groups) ∷ []) 7 g refl met .1)
-      where
-        go : Met ((7, first (seedless groups tags limit) groups) ∷ []) 7 g → first (seedless groups tags limit) groups ≡ some g
-        go (inl m) = m .1
-        go (inr m) = absurd (m .1)
+        (met-alone (buildingChecks tags groups limit room) 7 refl met) .1
 
     -- An answer says that the checks before 7 pass, that every group has a seed, and the length.
     answered-says : {size : ℕ} → buildingOf tags groups limit room ≡ answered size

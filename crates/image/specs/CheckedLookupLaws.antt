@@ -3,7 +3,7 @@
 use mathlib.Core.Path.{_≡_, refl, sym, _∙_, ap}
 use mathlib.Core.Logic.{_⊎_, inl, inr, _↔_}
 use mathlib.Core.Bool.{Bool, true, false, cond, not, _&&_, _||_, true≢false, or-true}
-use mathlib.Core.List.{List}
+use mathlib.Core.List.{List, _∷_}
 use mathlib.Core.Option.{Option, none, some, Option·getD}
 use Prim.Native.Nat.{ℕ, zero, suc, _+_, _-_, _≤_, _<_}
 use native.Mathlib.Omega.{arith}
@@ -11,12 +11,12 @@ use lib.Dec.{eqb, leb, ltb}
 use borrow.Author.Tests.{ltb-true, ltb-false, lt-ltb, le-ltb, le-leb, eqb-true, eqb-false, eq-eqb, not-false}
 use Rattle.refusal.specs.Limits.{tagsMax, unwired}
 use Rattle.lists.specs.BoolLaws.{neither-of-or, either-of-or}
-use Rattle.refusal.specs.Outcome.{Outcome, answered}
+use Rattle.refusal.specs.Outcome.{Outcome, answered, refused}
 use Rattle.lists.specs.First.{first, metAt, isSome}
-use Rattle.lists.specs.FirstLaws.{first-none, first-out, some-of-isSome, none-of-isSome}
-use Rattle.refusal.specs.Checks.{inOrder, Pass}
+use Rattle.lists.specs.FirstLaws.{first-some, first-none, first-out, some-of-isSome, none-of-isSome}
+use Rattle.refusal.specs.Checks.{Check, inOrder, Pass}
 use Rattle.refusal.specs.ChecksLaws.{_then_, metAt-false, false-of-met, passed, pass-append, pass-split, inOrder-pass, inOrder-answered}
-use Rattle.refusal.specs.ChecksLaws.{inOrder-append}
+use Rattle.refusal.specs.ChecksLaws.{Met, met-behind, met-alone, inOrder-refused, inOrder-append}
 use Rattle.hash.specs.FormulaLaws.{group-below, place-below}
 use Rattle.text.specs.Line.{lineAt, imageHeader}
 use Rattle.text.specs.LineLaws.{image-header-only}
@@ -40,6 +40,16 @@ pub record Sound (v : View) : Type 0 where
   pub placed : (j : ℕ) → j < countIn v → misplaced v j ≡ false
   pub once : (j : ℕ) → j < countIn v → repeated v j ≡ false
 
+-- Where no line is malformed every slot line states a tag.
+slots-read : (v : View) → first (malformedIn v) (1 + groupsIn v + countIn v) ≡ none
+    → (j : ℕ) → j < countIn v → isSome (v .slotAt (slotLineIn v j)) ≡ true
+unfolding malformedIn slotLineIn
+slots-read v lines j lt =
+    let past : groupsIn v ≤ groupsIn v + j = omega arith in
+    let e : 1 + groupsIn v + j ≡ suc (groupsIn v + j) = omega arith in
+    let well = first-none (malformedIn v) (1 + groupsIn v + countIn v) lines (suc (groupsIn v + j)) (omega arith) in
+    rw e (not-false (isSome (v .slotAt (suc (groupsIn v + j)))) (rw (le-ltb (groupsIn v + j) (groupsIn v) past) at well))
+
 pub sound-of-pass : (v : View) → Pass (checkingChecks v) → Sound v
 unfolding checkingChecks numberChecks malformedIn slotLineIn
 sound-of-pass v passes =
@@ -48,11 +58,7 @@ sound-of-pass v passes =
     record {
       opens = opens;
       group-lines = λ g lt. not-false (isSome (v .groupAt (suc g))) (rw (lt-ltb g (groupsIn v) lt) at (well (suc g) (omega arith)));
-      slot-lines = λ j lt.
-          let past : groupsIn v ≤ groupsIn v + j = omega arith in
-          let e : 1 + groupsIn v + j ≡ suc (groupsIn v + j) = omega arith in
-          rw e (not-false (isSome (v .slotAt (suc (groupsIn v + j))))
-          (rw (le-ltb (groupsIn v + j) (groupsIn v) past) at (well (suc (groupsIn v + j)) (omega arith))));
+      slot-lines = slots-read v lines;
       wired = first-none (holdsUnwired v) (countIn v) (passed (numberChecks v) numbers 17);
       not-faulty = first-none (λ g. faulty g (startIn v g) (endIn v g)) (groupsIn v) (passed (numberChecks v) numbers 13);
       placed = first-none (misplaced v) (countIn v) (passed (numberChecks v) numbers 14);
@@ -91,6 +97,29 @@ pass-of-sound v s =
 pub slotIn-reads : (v : View) (j : ℕ) {t : ℕ} → v .slotAt (slotLineIn v j) ≡ some t → slotIn v j ≡ t
 unfolding slotIn
 slotIn-reads v j e = rw e
+
+-- 17 comes from the slots alone, behind lines that are well formed.
+met-unwired : (v : View) {j : ℕ} → Met (checkingChecks v) 17 j
+    → (first (malformedIn v) (1 + groupsIn v + countIn v) ≡ none) × (first (holdsUnwired v) (countIn v) ≡ some j)
+unfolding checkingChecks openingChecks numberChecks
+met-unwired v {j} met =
+    let checks : List Check = (12, first (malformedIn v) (1 + groupsIn v + countIn v)) ∷ numberChecks v in
+    let ((lines, end), slots) = met-alone checks 17 refl ((met-behind (openingChecks v) checks 17 j refl met) .1) in
+    (lines, slots)
+
+-- The slot that 17 names states 0, and no lower one does: the 0 that stands for a malformed line is never taken for it.
+pub unwired-named : (image : List ℕ) {j : ℕ} → checkingOf image ≡ refused 17 j
+    → SlotHolds image j unwired × ((i : ℕ) → i < j → SlotHolds image i unwired → ⊥)
+unfolding checkingOf holdsUnwired
+unwired-named image {j} e =
+    let v = viewOf image in
+    let (lines, slots) = met-unwired v (inOrder-refused (checkingChecks v) 0 e) in
+    let at = first-some (holdsUnwired v) (countIn v) slots in
+    let (u, reads) = some-of-isSome (v .slotAt (slotLineIn v j)) (slots-read v lines j (at .below)) in
+    let zero : u ≡ unwired = sym (slotIn-reads v j reads) ∙ eqb-true (slotIn v j) unwired (at .holds) in (
+      record { slot = at .below; tag = rw zero at reads },
+      λ i lower holds. true≢false (sym (eq-eqb (slotIn v i) unwired (slotIn-reads v i (holds .tag))) ∙ at .lowest i lower),
+    )
 
 -- Where the line of a slot is well formed, looking at it decides by its tag.
 slot-looked : (v : View) (t j : ℕ) (next : Outcome Found) {u : ℕ} → v .slotAt (slotLineIn v j) ≡ some u

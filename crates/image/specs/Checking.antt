@@ -45,7 +45,7 @@ misplaced v j =
 unfoldable pub repeated : View → ℕ → Bool
 repeated v j = isSome (first (λ i. leb (startIn v (groupOfSlot v j)) i && eqb (slotIn v i) (slotIn v j)) j)
 
--- "17 … in checking, directly after the malformed lines, at the lowest slot holding 0. 13: at the lowest faulty group … 14: at the
+-- Document 02, §1: 17 "directly after the malformed lines, at the lowest slot holding 0". "13: at the lowest faulty group … 14: at the
 -- lowest slot whose tag belongs to another group or has neither place there. 15: at the lowest slot whose tag stands in a lower slot
 -- of its group." They go by the numbers that the lines state.
 unfoldable pub numberChecks : View → List Check

@@ -44,7 +44,7 @@ lookupInGroup v t g =
     (atSlot v t (candidateIn v g 1 t)
     (answered unknown))))
 
--- "Looking up 0 answers unknown once line 0 and the length have passed"; any other tag is looked up in its group.
+-- Document 02, §1: "Looking up 0 answers unknown once line 0 and the length have passed"; any other tag is looked up in its group.
 unfoldable pub lookupOf : List ℕ → ℕ → Outcome Found
 lookupOf image t =
     let v = viewOf image in

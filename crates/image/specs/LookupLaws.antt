@@ -25,12 +25,17 @@ use Rattle.image.specs.Lookup.{Found, number, unknown, groupChecks, look
 use Rattle.image.specs.Fair.{Fair}
 use Rattle.image.specs.FaultLaws.{fair-of-faulty}
 use Rattle.image.specs.LinesRead.{LinesRead, ownGroup, ownSlot}
-use Rattle.image.specs.UnwiredLaws.{by-wired, lookup-unwired, lookup-wired, unwired-unanswered, opening-agrees}
+use Rattle.image.specs.UnwiredLaws.{by-wired, lookup-unwired, lookup-wired, unwired-unanswered}
 use Rattle.image.specs.Holds.{HoldsTag, SlotHolds}
 
 and-cond : (a b : Bool) → (a && b) ≡ cond a b false
 and-cond true b = refl
 and-cond false b = refl
+
+-- Views of one length with one line 0 open alike.
+opening-agrees : (v w : View) → v .size ≡ w .size → v .header ≡ w .header → openingChecks v ≡ openingChecks w
+unfolding openingChecks countIn groupsIn
+opening-agrees v w size header = rw (size, header)
 
 -- Two views agree on a line: they read it alike, as line 0, as a group line and as a slot line.
 record AgreeAt (v w : View) (k : ℕ) : Type 0 where

@@ -10,7 +10,7 @@ use Rattle.refusal.specs.Limits.{unwired}
 use Rattle.refusal.specs.Outcome.{answered}
 use Rattle.refusal.specs.Checks.{inOrder}
 use Rattle.refusal.specs.ChecksLaws.{inOrder-answered}
-use Rattle.image.specs.View.{View, viewOf, countIn, groupsIn}
+use Rattle.image.specs.View.{viewOf}
 use Rattle.image.specs.Checking.{openingChecks}
 use Rattle.image.specs.Lookup.{number, unknown, lookupInGroup, lookupOf}
 use Rattle.image.specs.LinesRead.{ownGroup}
@@ -40,8 +40,3 @@ module _ (image : List ℕ) where
       let behind = (inOrder-answered (openingChecks (viewOf image)) (answered unknown) (sym lookup-unwired ∙ e)) .1 in
       let z : _≡_ {A = ℕ} 0 1 = cc in
       omega arith
-
--- Views of one length with one line 0 open alike.
-pub opening-agrees : (v w : View) → v .size ≡ w .size → v .header ≡ w .header → openingChecks v ≡ openingChecks w
-unfolding openingChecks countIn groupsIn
-opening-agrees v w size header = rw (size, header)

@@ -82,6 +82,11 @@ abbrev pub checksBefore : ℕ → List Check → List Check
 checksBefore number [] = []
 checksBefore number (check ∷ checks) = cond (eqb (check .0) number) [] (check ∷ checksBefore number checks)
 
+-- And those behind it: none where there is no such check.
+abbrev pub checksBehind : ℕ → List Check → List Check
+checksBehind number [] = []
+checksBehind number (check ∷ checks) = cond (eqb (check .0) number) checks (checksBehind number checks)
+
 -- One check more passes, and the next one is reached. Which is next, the list says.
 pub passed-on : (checks : List Check) (number next : ℕ)
     → checksBefore next checks ≡ checksBefore number checks ++ (number, metBy checks number) ∷ []
@@ -114,6 +119,30 @@ met-behind (check ∷ front) back number place absent (inr h) =
     let rest = (neither-of-or (eqb (check .0) number) (numbers front number) absent) .1 in
     let (passes, behind) = met-behind front back number place rest (h .1) in
     ((h .0, passes), behind)
+
+-- A number that no check has is not met.
+met-none : (checks : List Check) (number place : ℕ) → numbers checks number ≡ false → Met checks number place → ⊥
+met-none [] number place absent h = h
+met-none (check ∷ checks) number place absent (inl h) =
+    eqb-false (check .0) number ((neither-of-or (eqb (check .0) number) (numbers checks number) absent) .0) (h .0)
+met-none (check ∷ checks) number place absent (inr h) =
+    met-none checks number place ((neither-of-or (eqb (check .0) number) (numbers checks number) absent) .1) (h .1)
+
+-- A number that one check alone has is met by that check, and those before it pass.
+pub met-alone : (checks : List Check) (number : ℕ) {place : ℕ} → numbers (checksBehind number checks) number ≡ false
+    → Met checks number place → Pass (checksBefore number checks) × (metBy checks number ≡ some place)
+met-alone [] number once h = absurd h
+met-alone (check ∷ checks) number {place} once h = go (eqb (check .0) number) refl once h (met-alone checks number)
+  where
+    go : (b : Bool) → eqb (check .0) number ≡ b → numbers (cond b checks (checksBehind number checks)) number ≡ false
+        → Met (check ∷ checks) number place
+        → (numbers (checksBehind number checks) number ≡ false → Met checks number place
+        → Pass (checksBefore number checks) × (metBy checks number ≡ some place))
+        → Pass (cond b [] (check ∷ checksBefore number checks)) × (cond b (check .1) (metBy checks number) ≡ some place)
+    go true same once (inl h) later = (tt, h .1)
+    go true same once (inr h) later = absurd (met-none checks number place once (h .1))
+    go false other once (inl h) later = absurd (eqb-false (check .0) number other (h .0))
+    go false other once (inr h) later = let (front, met) = later once (h .1) in ((h .0, front), met)
 
 module _ {A : Type 0} where
   -- Then they come to the same.

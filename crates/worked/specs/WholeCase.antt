@@ -43,8 +43,8 @@ unfolding flatten orElse outside answeredBy followedBy first metAt isSome met in
     listedIn readingChecks readingOf upTo linesOf bytesOf imageLength longestImage viewOf countIn groupsIn startIn seedIn slotLineIn
     slotIn endIn faulty candidateIn openingChecks malformedIn groupOfSlot holdsUnwired misplaced repeated numberChecks
     checkingChecks checkingOf groupChecks lookupChecks atSlot lookupInGroup lookupOf select members startOf choiceOf
-    placeIn numberOf tagNumbered sheetOf seedTaken choicesTaken imageOf buildingChecks earlierChecks buildingOf listFromText buildingFromText
-    imageOfList outputOf printed answer64 foundNumber buildAnswer checkAnswer lookupAnswer
+    placeIn numberOf tagNumbered sheetOf seedTaken choicesTaken imageOf buildingChecks earlierChecks buildingOf
+    listFromText buildingFromText imageOfList outputOf printed answer64 foundNumber buildAnswer checkAnswer lookupAnswer
 computed = 0
 
 -- "    2    9" and the tags 1, 2, 3, each in a line of its own.
