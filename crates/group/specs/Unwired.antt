@@ -1,4 +1,5 @@
--- "Tag 0 belongs to nobody" (document 02, §1): the check that keeps it out of a list, shared by the operations that take one. Assumes nothing.
+-- "Tag 0 belongs to nobody" (document 02, §1): the check that keeps it out of a list, shared by the operations that take one.
+-- Assumes nothing.
 use Prim.Native.Nat.{ℕ, _<_}
 use mathlib.Core.Bool.{Bool, false}
 use mathlib.Core.List.{List, [], _∷_}
