@@ -23,9 +23,9 @@ limitMax = 65536
 abbrev pub seedMax : ℕ
 seedMax = 65535
 
--- "A group holds 0 to 24 tags"
+-- "A group may now hold 32 tags": document 02, §2
 abbrev pub groupMax : ℕ
-groupMax = 24
+groupMax = 32
 
 -- "Input above 65,527 bytes is refused with 5 at place 0, unexamined": the printer's input and the C boundary's
 abbrev pub textMax : ℕ

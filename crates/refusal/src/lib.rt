@@ -11,7 +11,7 @@ pub const TAGS_MAX: usize = 4096;
 
 pub const GROUPS_MAX: u32 = 512;
 
-pub const GROUP_MAX: u32 = 24;
+pub const GROUP_MAX: u32 = 32;
 
 pub const LIMIT_MAX: u32 = 65536;
 
