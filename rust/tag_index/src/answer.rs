@@ -7,7 +7,10 @@
 use std::ops::RangeInclusive;
 
 use crate::refusal::{Reason, Refusal};
-use crate::{LARGEST_GROUP_COUNT, LARGEST_LIST, LONGEST_IMAGE, LONGEST_TEXT};
+use crate::{
+    Placement, LARGEST_GROUP, LARGEST_GROUP_COUNT, LARGEST_LIMIT, LARGEST_LIST, LONGEST_IMAGE,
+    LONGEST_TEXT,
+};
 
 /// The answer that stands for unknown.
 pub const UNKNOWN: u64 = 4_294_967_295;
@@ -45,6 +48,13 @@ const LOOKUP: [Allowed; 3] = [
     (Reason::WrongLength, NO_PLACE),
     (Reason::MalformedLine, LINES_OF_IMAGE),
     (Reason::FaultyGroup, GROUPS),
+];
+const PLACING: [Allowed; 5] = [
+    (Reason::LimitOutOfRange, NO_PLACE),
+    (Reason::TooManyTags, NO_PLACE),
+    (Reason::NotAscending, 1..=LARGEST_GROUP as u32 - 1),
+    (Reason::UnwiredTag, NO_PLACE),
+    (Reason::NoSeed, NO_PLACE),
 ];
 
 /// Building's answer for a buffer of `room` bytes: the image's length, or the refusal.
@@ -93,6 +103,30 @@ pub(crate) fn found(answer: u64, count: usize) -> Option<u32> {
         Ok(Some(number)) if (number as usize) < count => Some(number),
         _ => not_allowed("lookup in a checked image", answer),
     }
+}
+
+/// Placing's answer for `count` tags and this seed limit, and the cell that it was lent: the seed with
+/// the choice word, or the refusal.
+pub(crate) fn placed(
+    answer: u64,
+    word: u32,
+    count: usize,
+    limit: u32,
+) -> Result<Placement, Refusal> {
+    if let Some(refusal) = refusal(answer, &PLACING) {
+        return Err(refusal);
+    }
+    if count > LARGEST_GROUP || answer >= limit.min(LARGEST_LIMIT).into() {
+        not_allowed("placing", answer);
+    }
+    // A word of 32 choices has no bit beyond them; as 64 bits it can be shifted by 32.
+    if u64::from(word) >> count != 0 {
+        not_allowed(&format!("placing, with word {word},"), answer);
+    }
+    Ok(Placement {
+        seed: answer as u32,
+        word,
+    })
 }
 
 /// The refusal that an answer stands for, if it is one of those allowed at a place that it can name.
