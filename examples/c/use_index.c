@@ -95,8 +95,8 @@ int main(void) {
     look_up(length, 2);
     look_up(length, 3);
 
-    /* Groups placed by themselves. No seed below L = 1 serves the second, and seed 1 does; the third
-     * has a tag more than a group holds. */
+    /* Groups placed by themselves. No seed below L = 1 serves the second, and seed 1 does; the
+     * third has a tag more than a group holds. */
     const uint32_t first[] = {599, 1193};
     const uint32_t second[] = {1, 3};
     const uint32_t third[TAG_INDEX_LARGEST_GROUP + 1] = {1, 2, 3};
