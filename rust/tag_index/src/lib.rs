@@ -2,8 +2,8 @@
 //! up tags in it, and placing a group by itself.
 //!
 //! The work is done by the proved functions behind the C boundary; this crate lends them slices and
-//! takes their answers apart. Every function takes any bytes and tags, and its answer depends on nothing but
-//! its arguments.
+//! takes their answers apart. Every function takes any bytes and any numbers, and its answer depends
+//! on nothing but its arguments.
 //!
 //! ```
 //! let text = tag_index::list_text(2, 9, &[1, 2, 3])?;
@@ -264,8 +264,10 @@ pub struct Placement {
     pub word: u32,
 }
 
-/// Places one group of at most [`LARGEST_GROUP`] tags, in ascending order: the least seed below the
-/// limit that serves it, and the choice of each tag.
+/// Places one group of at most [`LARGEST_GROUP`] tags, in ascending order and without tag 0: the
+/// least seed below the limit that serves it, and the choice of each tag.
+///
+/// An empty group has seed 0 and word 0.
 ///
 /// ```
 /// use tag_index::{Placement, Reason};
@@ -279,8 +281,8 @@ pub struct Placement {
 /// let refusal = tag_index::place_group(&[1, 3], 1).unwrap_err();
 /// assert_eq!((refusal.reason, refusal.place), (Reason::NoSeed, 0));
 ///
-/// let tags: Vec<u32> = (1..=33).collect();
-/// let refusal = tag_index::place_group(&tags, 9).unwrap_err();
+/// let one_too_many: Vec<u32> = (1..=33).collect();
+/// let refusal = tag_index::place_group(&one_too_many, 9).unwrap_err();
 /// assert_eq!(refusal.reason, Reason::TooManyTags);
 /// # Ok::<(), tag_index::Refusal>(())
 /// ```
