@@ -37,6 +37,16 @@ pub const ALL_KINDS_OF_BITS: [u32; 32] = [
     501, 522, 557, 590, 594, 626, 635, 652, 670, 675, 705, 721,
 ];
 
+/// The lowest tags of which seed 0 serves 25, and those of which it serves 32. The word of the 32 has
+/// bit 31: 2,147,501,333.
+pub const CLOSE_25: [u32; 25] = [
+    1, 2, 3, 4, 5, 6, 7, 8, 9, 10, 11, 12, 13, 14, 15, 16, 17, 18, 19, 20, 21, 22, 26, 28, 30,
+];
+pub const CLOSE_32: [u32; 32] = [
+    1, 2, 3, 4, 5, 6, 7, 8, 9, 10, 11, 12, 13, 14, 15, 16, 17, 18, 19, 20, 21, 22, 23, 24, 25, 26,
+    28, 29, 32, 34, 43, 47,
+];
+
 /// Served by seed 65,535, the last there is, and by no other; the word is 2,463,874,191. About one
 /// seed in 6,000 serves 32 random tags, so one such group in 50 million is of this kind.
 pub const LAST_SEED: [u32; 32] = [
@@ -144,6 +154,7 @@ fn constants(tally: &mut Tally) {
         (PATH_TO_BE_MOVED_ALONG, 2_147_483_647),
         (LOLLIPOP, 2_147_483_646),
         (ALL_KINDS_OF_BITS, 2_407_770_217),
+        (CLOSE_32, 2_147_501_333),
     ] {
         for limit in [1, 2, 65_536] {
             for cell in CELLS {
