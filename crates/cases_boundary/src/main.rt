@@ -17,6 +17,13 @@ fn build(name: &[u8], text: &[u8]) {
     report::words(b"\n");
 }
 
+// Prints what stands in the cell that placing was lent.
+fn cell(word: &[u32; 1]) {
+    report::words(b"  cell");
+    report::numbers(word);
+    report::words(b"\n");
+}
+
 // Places a group, lending a cell that holds 77, and prints the answer and the cell.
 fn place(name: &[u8], tags: &[u32], limit: u32) {
     let mut word: [u32; 1] = [77];
@@ -24,7 +31,7 @@ fn place(name: &[u8], tags: &[u32], limit: u32) {
         name,
         tag_index::tag_index_place_group(tags, limit, &mut word),
     );
-    answer(b"  cell", word[0] as u64);
+    cell(&word);
 }
 
 // Prints what checking answers, and lookups of the tags 0 to 4.

@@ -121,6 +121,6 @@ fn groups(output: &mut Output) {
     for (name, tags, limit) in groups {
         let mut word = [77];
         let answer = model::answer_place(tags, limit, &mut word);
-        output.words(format!("{name}: {answer}\n  cell: {}\n", word[0]));
+        output.words(format!("{name}: {answer}\n  cell {}\n", word[0]));
     }
 }
