@@ -79,11 +79,15 @@ pub fn two_on_place_0() -> Vec<u32> {
 /// What the lent cell holds before.
 const CELLS: [u32; 5] = [0, 1, 0xA5A5_5A5A, 1 << 31, u32::MAX];
 
-/// The groups above, the worked values, every refusal, and all shapes of graphs.
-pub fn chosen(tally: &mut Tally, random: &mut Random, size: &Size) {
+/// The groups above, the worked values, and every refusal.
+pub fn chosen(tally: &mut Tally, random: &mut Random) {
     constants(tally);
     refusals(tally, random);
     due_at_once(tally);
+}
+
+/// Groups of every size: all shapes of graphs, and random and close-numbered tags.
+pub fn compare(tally: &mut Tally, random: &mut Random, size: &Size) {
     for n in 0..=LARGEST_GROUP + 1 {
         for _ in 0..size.shapes {
             for (kind, keys) in shapes(random, n) {
@@ -93,13 +97,6 @@ pub fn chosen(tally: &mut Tally, random: &mut Random, size: &Size) {
             tally.kind("groups made from a sequence that fills");
             planted(tally, random, n);
         }
-    }
-}
-
-/// Random and close-numbered groups of every size, with L at its greatest, at the seed found, and at
-/// one more than that.
-pub fn compare(tally: &mut Tally, random: &mut Random, size: &Size) {
-    for n in 0..=LARGEST_GROUP + 1 {
         for _ in 0..size.groups {
             for (kind, tags) in group(random, n) {
                 tally.kind(kind);
@@ -163,7 +160,7 @@ fn constants(tally: &mut Tally) {
         }
     }
     tally.kind("the group that the last seed serves");
-    for cell in CELLS {
+    for cell in [0, u32::MAX] {
         let served = tally.place(&LAST_SEED, 65_536, cell);
         assert_eq!(served, (65_535, 2_463_874_191));
         let refused = tally.place(&LAST_SEED, 65_535, cell);

@@ -46,7 +46,9 @@ pub fn compare(tally: &mut Tally, random: &mut Random, size: &Size) {
     counts(tally, random);
     buffers(tally, random);
     without_seed(tally, random, size);
-    all_full(tally, random);
+    for _ in 0..size.all_full {
+        all_full(tally, random);
+    }
     for _ in 0..size.lists {
         for (kind, case) in structured(random) {
             tally.kind(kind);
@@ -56,6 +58,9 @@ pub fn compare(tally: &mut Tally, random: &mut Random, size: &Size) {
     for _ in 0..size.full_lists {
         tally.kind("full groups");
         let case = full(random);
+        rebuild(tally, random, &case);
+        tally.kind("close-numbered lists");
+        let case = close_numbered(random);
         rebuild(tally, random, &case);
         tally.kind("one group of 33 and more");
         overfull(tally, random);
@@ -211,6 +216,14 @@ pub fn full(random: &mut Random) -> Case {
     }
     tags.sort_unstable();
     Case::new(groups, 65_536, tags)
+}
+
+/// Consecutive tags, 24 to 31 for each group: they spread over the groups almost evenly.
+fn close_numbered(random: &mut Random) -> Case {
+    let groups = random.within(1, 8) as u32;
+    let count = groups * random.within(24, 31) as u32;
+    let first = random.tag().min(u32::MAX - count);
+    Case::new(groups, 65_536, (first..first + count).collect::<Vec<_>>())
 }
 
 /// Few tags in most groups, and 33 to 40 in one or two of them: 10 at the lower one.

@@ -35,6 +35,8 @@ pub struct Size {
     /// Rounds of one list of each kind, for building and for damage.
     lists: usize,
     full_lists: usize,
+    /// Lists of 128 groups that have 32 tags each.
+    all_full: usize,
     large_lists: usize,
     /// Images of which each byte is changed, and by which steps: 1 is all other values.
     small_images: usize,
@@ -57,6 +59,7 @@ pub struct Size {
 const SMALL: Size = Size {
     lists: 1,
     full_lists: 1,
+    all_full: 0,
     large_lists: 1,
     small_images: 2,
     byte_step: 51,
@@ -73,6 +76,7 @@ const SMALL: Size = Size {
 const USUAL: Size = Size {
     lists: 500,
     full_lists: 100,
+    all_full: 1,
     large_lists: 150,
     small_images: 99,
     byte_step: 1,
@@ -89,6 +93,7 @@ const USUAL: Size = Size {
 const LONG: Size = Size {
     lists: 6_000,
     full_lists: 1_000,
+    all_full: 8,
     large_lists: 1_500,
     small_images: 99,
     byte_step: 1,
@@ -197,7 +202,7 @@ fn compare(options: &Options) -> bool {
     let mut tally = Tally::new(options.exact);
     let mut random = Random::new(options.seed);
     let size = &options.size;
-    groups::chosen(&mut tally, &mut random, size);
+    groups::chosen(&mut tally, &mut random);
     lists::compare(&mut tally, &mut random, size);
     texts::compare(&mut tally, &mut random, size);
     images::compare(&mut tally, &mut random, size);

@@ -258,6 +258,26 @@ fn a_refusal_of_the_placing_call_leaves_the_cell_as_it_was() {
     }
 }
 
+/// 32 tags that seed 65,535 serves, and no other: found by trying some ten million groups.
+const LAST_SEED: [u32; 32] = [
+    31, 41, 521, 587, 1926, 2118, 2431, 2632, 2778, 3039, 3273, 3443, 3871, 4127, 4436, 4452, 4662,
+    5245, 5281, 5333, 5421, 6130, 6933, 7620, 7632, 7697, 8132, 8484, 9305, 9764, 9771, 9791,
+];
+
+#[test]
+fn the_last_seed_is_tried_where_the_limit_is_65536() {
+    assert_eq!(place_group(&LAST_SEED, 65_536), Ok((65_535, 2_463_874_191)));
+    assert_eq!(place_group(&LAST_SEED, 65_535), Err(refusal(7, 0)));
+    let last = places(&LAST_SEED, 65_535);
+    assert_eq!(least_by_cycles(&last), Some(2_463_874_191));
+    for seed in 0..65_535 {
+        assert_eq!(least_by_cycles(&places(&LAST_SEED, seed)), None);
+    }
+    let image = image_of(&LAST_SEED, 1, 65_536).unwrap();
+    assert_eq!(image[..22], *b"   32    1\n    065535\n");
+    assert_eq!(image_of(&LAST_SEED, 1, 65_535), Err(refusal(7, 0)));
+}
+
 #[test]
 fn groups_of_32_tags_that_no_seed_serves() {
     for seed in 0..65_536 {
