@@ -26,7 +26,8 @@ pub struct Groups {
 /// All seeds are allowed in every case.
 pub const LIMIT: u32 = 65_536;
 
-/// The most tags that a group has in the cases of 171 groups, which so have 4,096 tags between them.
+/// The most tags of a group in the cases of 171 groups, just enough for 4,096 in all. A group can hold
+/// more; these lists stay as they are, so that times and counts can be compared with earlier ones.
 const SHARE_OF_171: usize = 24;
 
 impl Case {

@@ -101,13 +101,12 @@ fn seed_of(tags: &[u32]) -> Option<u64> {
         ((version.place)(tags, LIMIT, &mut word), word)
     });
     assert_eq!(proved, plain);
-    match proved.0 {
-        answer if answer == 7 << 32 => None,
-        seed => {
-            assert!(seed < LIMIT.into());
-            Some(seed)
-        }
+    let (answer, _) = proved;
+    if answer == 7 << 32 {
+        return None;
     }
+    assert!(answer < LIMIT.into());
+    Some(answer)
 }
 
 fn seeds() -> Plot {
