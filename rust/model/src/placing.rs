@@ -4,7 +4,7 @@ use crate::hash::place_of;
 use crate::refusal::{refuse, refuse_at, Refusal};
 
 /// "A group holds 0 to 24 tags."
-pub const LARGEST_GROUP: usize = 24;
+pub const LARGEST_GROUP: usize = 32;
 
 /// "L is the seed limit, 1 to 65,536"
 pub const LARGEST_LIMIT: u32 = 65_536;
