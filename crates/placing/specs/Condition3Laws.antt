@@ -1,25 +1,27 @@
--- Placing meets Condition 3 of one group; and where a group passes the earlier checks, the condition leaves no other answer.
+-- Placing meets Condition 3 of one group; where a group passes the earlier checks, the condition leaves no other answer; and a choice
+-- word is a number of 32 bits.
 -- Assumes nothing.
 use mathlib.Core.Path.{_≡_, refl, sym, _∙_}
 use mathlib.Core.Bool.{not}
 use mathlib.Core.List.{List}
 use mathlib.Core.Option.{Option, none, some}
-use Prim.Native.Nat.{ℕ}
+use Prim.Native.Nat.{ℕ, _^_, _≤_, _<_}
 use native.Mathlib.Omega.{arith}
 use lib.ListN.{length}
-use borrow.Author.Tests.{le-ltb}
-use Rattle.refusal.specs.Limits.{limitMax, groupMax}
-use Rattle.refusal.specs.LimitsLaws.{outside-not}
+use lib.Pow.{pow-mono}
+use borrow.Author.Tests.{ltb-false, le-ltb}
+use Rattle.refusal.specs.Limits.{tagEnd, limitMax, groupMax}
+use Rattle.refusal.specs.LimitsLaws.{outside-not, inside, word-bits}
 use Rattle.refusal.specs.Outcome.{Outcome, answered, refused}
 use Rattle.lists.specs.First.{isSome}
 use Rattle.refusal.specs.Checks.{met}
-use Rattle.refusal.specs.ChecksLaws.{_then_, met-true, met-false, passed, inOrder-answered}
+use Rattle.refusal.specs.ChecksLaws.{_then_, met-true, met-false, false-of-met, passed, inOrder-answered}
 use Rattle.filling.specs.Word.{wordOf, choicesOf}
 use Rattle.filling.specs.WordLaws.{word-choices, choices-word, word-below}
 use Rattle.group.specs.Group.{leastSeed, taken}
 use Rattle.group.specs.GroupLaws.{fills-length, taken-unique, leastSeed-some, leastSeed-none, leastSeed-only, leastSeed-out}
-use Rattle.group.specs.AscendingLaws.{check-of-ascending}
-use Rattle.group.specs.UnwiredLaws.{check-of-wired}
+use Rattle.group.specs.AscendingLaws.{ascending-of-check, check-of-ascending}
+use Rattle.group.specs.UnwiredLaws.{wired-of-check, check-of-wired}
 use Rattle.group.specs.Placing.{Placement, placingChecks, placementOf, placingOf}
 use Rattle.placing.specs.PlacingLaws.{Placeable, placing-unseeded, placing-seeded}
 use Rattle.placing.specs.Condition3.{Unserved, GroupChecks, Placed, GroupCondition3}
@@ -114,3 +116,22 @@ module _ (tags : List ℕ) (limit : ℕ) where
           let least = leastSeed-some tags limit found in
           let (placed, is) = c .otherwise h (λ unserved. unserved s (least .below) _ (least .fills)) in
           is ∙ sym (placed-only h placed (c .accepted placed is))
+
+  -- An answer comes only where the earlier checks pass,
+  pub answered-checked : {placed : Placement} → placingOf tags limit ≡ answered placed → GroupChecks tags limit
+  unfolding placingOf placingChecks
+  answered-checked e =
+      let checks = placingChecks tags limit in
+      let passes = (inOrder-answered checks (answered (placementOf tags limit)) e) .0 in
+      record {
+        limit-legal = inside 1 limitMax limit (false-of-met _ (passed checks passes 4));
+        count-legal = ltb-false groupMax (length tags) (false-of-met _ (passed checks passes 5));
+        ascending = ascending-of-check tags (passed checks passes 6);
+        wired = wired-of-check tags (passed checks passes 17);
+      }
+
+  -- and its word is a number of 32 bits.
+  pub word-fits : (placed : Placement) → placingOf tags limit ≡ answered placed → placed .word < tagEnd
+  word-fits placed e =
+      let longest : 2 ^ length tags ≤ 2 ^ groupMax = pow-mono (answered-checked e .count-legal) in
+      omega (arith, accepted-placed placed e .no-higher-bit, word-bits)

@@ -23,7 +23,8 @@ limitMax = 65536
 abbrev pub seedMax : ℕ
 seedMax = 65535
 
--- "A group may now hold 32 tags": document 02, §2
+-- "A group holds 0 to [32] tags"; "A group may now hold 32 tags": document 02, §2. A quotation of document 01 in which that changes the
+-- number has it in brackets.
 abbrev pub groupMax : ℕ
 groupMax = 32
 

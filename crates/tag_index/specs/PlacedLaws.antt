@@ -15,7 +15,7 @@ use Rattle.refusal.specs.PlaceLaws.{PlaceBelow, Numbered, below-checks, numbere
 use Rattle.group.specs.Ascending.{notAbove}
 use Rattle.group.specs.Placing.{Placement, placingChecks, placementOf, placingOf}
 use Rattle.placing.specs.Condition3Laws.{placing-condition3}
-use Rattle.tag_index.specs.Answer64.{answer64, outcome64, placeAnswer, cellWith, wordAfter}
+use Rattle.tag_index.specs.Answer64.{answer64, placeAnswer, cellWith, wordAfter}
 use Rattle.tag_index.specs.Answer64Laws.{Fits, outcome-answer}
 use Rattle.tag_index.specs.Condition3.{placed64, PlaceCondition3}
 

@@ -1,7 +1,6 @@
 -- `seeds::size_of` meets its contract: the table has the numbers from 0 up to the most tags of a group. Assumes nothing.
-use Prim.Native.Nat.{ℕ, suc, _<_}
+use Prim.Native.Nat.{suc, _<_}
 use mathlib.Core.Path.{_∙_}
-use mathlib.Core.List.{List}
 use native.Mathlib.Omega.{arith}
 use lib.ListN.{length}
 use borrow.Author.Needs.{needs}
