@@ -23,15 +23,15 @@ pub const PATH_TO_BE_MOVED_ALONG: [u32; 32] = [
     1009, 1142, 1164, 1196, 1326, 1339, 1399, 1469, 1556, 1618, 1681, 1705, 1775,
 ];
 
-/// Under seed 0, a path of 30 places with a fork: the last tag's eviction goes down the path, turns at
-/// the first tag, which has one place only, and comes back: 61 evictions, word 2,147,483,646.
+/// Under seed 0, a path of 30 places with a fork: the last tag's eviction goes down the path, turns
+/// at the first tag, which has one place only, and comes back: 61 evictions, word 2,147,483,646.
 pub const LOLLIPOP: [u32; 32] = [
     89, 123, 191, 196, 321, 353, 415, 457, 528, 529, 579, 661, 695, 700, 702, 708, 726, 814, 934,
     1061, 1154, 1166, 1236, 1323, 1385, 1427, 1553, 1554, 1578, 1595, 1615, 1636,
 ];
 
-/// Served by seed 0 with a word that has ones and zeros in every byte, and bit 31: 2,407,770,217. Four
-/// tags share both places with another one, and one has equal places.
+/// Served by seed 0 with a word that has ones and zeros in every byte, and bit 31: 2,407,770,217.
+/// Four tags share both places with another one, and one has equal places.
 pub const ALL_KINDS_OF_BITS: [u32; 32] = [
     44, 46, 64, 75, 105, 113, 152, 177, 227, 258, 288, 312, 341, 355, 356, 383, 430, 454, 474, 484,
     501, 522, 557, 590, 594, 626, 635, 652, 670, 675, 705, 721,
@@ -389,8 +389,8 @@ fn shapes(random: &mut Random, n: usize) -> Vec<(&'static str, Vec<Key>)> {
 /// Places a group that has these candidate places under some seed, with L so that this seed is the
 /// last one tried, with one less, and with the greatest.
 fn made(tally: &mut Tally, random: &mut Random, keys: &[Key]) {
-    // Under a seed s each place of choice 0 goes with about 4s + 3 places of choice 1, so from n / 8 on
-    // every pair has tags. In small groups a lower seed serves, more often the higher this one is.
+    // Under a seed s each place of choice 0 goes with about 4s + 3 places of choice 1, so from n / 8
+    // on every pair has tags. The higher the seed, the more often a lower one serves a small group.
     let seed = (keys.len() / 4 + random.below(2)) as u32;
     let from = 1 + random.below(1 << 30) as u32;
     let tags = tags_with(keys, seed, from);
@@ -414,8 +414,8 @@ fn tags_with(keys: &[Key], seed: u32, from: u32) -> Vec<u32> {
         .collect()
 }
 
-/// A group that is filled under a seed by a sequence chosen beforehand: each tag has its place in it by
-/// one choice, and by the other any place. This serves for every seed, also for 0.
+/// A group that is filled under a seed by a sequence chosen beforehand: each tag has its place in it
+/// by one choice, and by the other any place. This can be done for every seed, also for 0.
 fn planted(tally: &mut Tally, random: &mut Random, n: usize) {
     for seed in [0, 0, 1, random.below(100) as u32] {
         let mut places: Vec<u32> = (0..n as u32).collect();

@@ -6,7 +6,7 @@
 //!     compare --small          few cases, in memory of just the right size: for a memory checker
 //!     compare --stored         the stored outputs of the program crates, printed again from the model
 //!     compare --print PROGRAM  what the model writes for the cases of a program crate
-//!     compare --soak SECONDS   placing, rebuilding and looking up in one process, whose memory must not grow
+//!     compare --soak SECONDS   all calls again and again in one process, whose memory must not grow
 //!
 //! `--seed NUMBER` takes other random cases, `--printer PATH` another printer than the repository's
 //! `target/bin/printer`, `--no-printer` none. The first difference ends the run with status 1.

@@ -200,8 +200,8 @@ impl Tally {
         self.answers.iter().map(Answers::all).sum()
     }
 
-    /// Places a group, lending a cell that holds `cell`, and answers what both sides answered and left in
-    /// the cell.
+    /// Places a group, lending a cell that holds `cell`, and answers what both sides answered and what
+    /// they left in the cell.
     pub fn place(&mut self, tags: &[u32], limit: u32, cell: u32) -> (u64, u32) {
         let mut theirs = [cell];
         let expected = model::answer_place(tags, limit, &mut theirs);
@@ -217,10 +217,11 @@ impl Tally {
         };
         if answer != expected || ours != [[!cell], theirs, [!cell]] {
             let (kind, answer, expected) = (self.kind, said(answer), said(expected));
+            let before = [[!cell], [cell], [!cell]];
             differs(&format!(
-                "placing ({kind}): the library answers {answer}, the model {expected}; the cell and those \
-                 about it were {:?} and are {ours:?}, the model leaves {theirs:?}\ntags {tags:?}, L = {limit}",
-                [!cell, cell, !cell]
+                "placing ({kind}): the library answers {answer}, the model {expected}\n\
+                 the cell and its neighbours were {before:?} and are {ours:?}, the model leaves \
+                 {theirs:?} in it\ntags {tags:?}, L = {limit}"
             ));
         }
         self.count(Operation::Placing, answer);
@@ -431,7 +432,7 @@ impl Tally {
              the C boundary; --stored has them"
         );
         if !complete {
-            println!("compare: some answer never came, or a refusal at one place only or at one that it does not name");
+            println!("compare: some answer, group size, bit or seed never came, or a refusal at one place only or at one that it does not name");
         }
         complete
     }

@@ -1,5 +1,5 @@
-//! The cases of `cases_boundary`: the 64-bit answers of the four functions, for the whole case and for
-//! refusals of each.
+//! The cases of `cases_boundary`: the 64-bit answers of the four functions, for the whole case and
+//! for refusals of each.
 
 use super::Output;
 use crate::groups::PATH;

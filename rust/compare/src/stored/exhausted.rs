@@ -1,5 +1,5 @@
-//! The cases of `cases_exhausted`: groups refused only after all 65,536 seeds, and one that the last of
-//! them serves.
+//! The cases of `cases_exhausted`: groups refused only after all 65,536 seeds, and one that the last
+//! of them serves.
 
 use super::Output;
 use crate::groups::{two_on_place_0, without_place_0, LAST_SEED};
