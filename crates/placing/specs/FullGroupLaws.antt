@@ -26,29 +26,29 @@ use Rattle.placing.specs.PlacingLaws.{Placeable, placing-seeded}
 
 abbrev tags : List ℕ
 tags =
-    17 ∷ 51 ∷ 85 ∷ 90 ∷ 92 ∷ 98 ∷ 116 ∷ 170 ∷ 256 ∷ 302 ∷ 385 ∷ 511 ∷ 546 ∷ 617 ∷ 686 ∷ 783 ∷ 807 ∷ 913 ∷ 964 ∷ 1041 ∷ 1081 ∷
-    1159 ∷ 1236 ∷ 1268 ∷ 1343 ∷ 1411 ∷ 1471 ∷ 1541 ∷ 1628 ∷ 1690 ∷ 1753 ∷ 1777 ∷ []
+    89 ∷ 123 ∷ 157 ∷ 162 ∷ 164 ∷ 170 ∷ 188 ∷ 242 ∷ 328 ∷ 463 ∷ 546 ∷ 583 ∷ 618 ∷ 689 ∷ 703 ∷ 711 ∷ 735 ∷ 752 ∷ 803 ∷ 880 ∷ 1009 ∷
+    1142 ∷ 1164 ∷ 1196 ∷ 1326 ∷ 1339 ∷ 1399 ∷ 1469 ∷ 1556 ∷ 1618 ∷ 1681 ∷ 1705 ∷ []
 
--- The places behind place 16, in the order of the tags.
+-- The places behind place 0, in the order of the tags.
 abbrev places : List ℕ
 places =
-    17 ∷ 19 ∷ 27 ∷ 18 ∷ 22 ∷ 2 ∷ 6 ∷ 20 ∷ 30 ∷ 26 ∷ 14 ∷ 10 ∷ 31 ∷ 29 ∷ 24 ∷ 8 ∷ 25 ∷ 11 ∷ 3 ∷ 9 ∷ 28 ∷ 21 ∷ 0 ∷ 1 ∷ 4 ∷ 12 ∷ 5 ∷
-    15 ∷ 13 ∷ 7 ∷ 23 ∷ []
+    1 ∷ 3 ∷ 11 ∷ 2 ∷ 6 ∷ 18 ∷ 22 ∷ 4 ∷ 14 ∷ 10 ∷ 30 ∷ 26 ∷ 15 ∷ 13 ∷ 8 ∷ 24 ∷ 9 ∷ 27 ∷ 19 ∷ 25 ∷ 12 ∷ 5 ∷ 16 ∷ 17 ∷ 20 ∷ 28 ∷ 21 ∷
+    31 ∷ 29 ∷ 23 ∷ 7 ∷ []
 
 abbrev choices : List Bool
 choices = false ∷ replicate (length places) true
 
 -- Under seed 0 the tags' candidate places are a path, and no place comes twice on it.
-along : groupUnder tags 0 ≡ path 16 places
+along : groupUnder tags 0 ≡ path 0 places
 unfolding product highPart hashed multiplier placeOf bothPlaces candidates
 along = refl
 
-apart : fresh (16 ∷ []) places ≡ true
+apart : fresh (0 ∷ []) places ≡ true
 unfolding occurs
 apart = refl
 
 least-is : least (groupUnder tags 0) ≡ some choices
-least-is = rw along (path-least 16 places apart)
+least-is = rw along (path-least 0 places apart)
 
 fills : Fills (groupUnder tags 0) choices
 fills = least-fills (groupUnder tags 0) least-is
