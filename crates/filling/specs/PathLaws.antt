@@ -1,5 +1,5 @@
--- Keys along a path: the first has the path's first place twice, each other key the place before and its own. The places leave them
--- one sequence, in which every key but the first has choice 1: a choice word with all bits but the lowest. Assumes nothing.
+-- Keys along a path: the first has the path's first place twice, each other key the place before and its own. Each but the first can
+-- only take its own, by choice 1, so the word of the least sequence has all bits but the lowest. Assumes nothing.
 use Prim.Native.Nat.{ℕ, zero, suc, _+_, _^_}
 use mathlib.Core.Path.{_≡_, refl, _∙_}
 use mathlib.Core.Bool.{Bool, true, false, not, _&&_}

@@ -1,6 +1,5 @@
 -- Placing meets Condition 3 of one group; where a group passes the earlier checks, the condition leaves no other answer; and a choice
--- word is a number of 32 bits.
--- Assumes nothing.
+-- word is a number of 32 bits. Assumes nothing.
 use mathlib.Core.Path.{_≡_, refl, sym, _∙_}
 use mathlib.Core.Bool.{not}
 use mathlib.Core.List.{List}

@@ -6,15 +6,14 @@ use Prim.Native.Nat.{ℕ, _≤_, _<_}
 use native.Mathlib.Omega.{arith}
 use lib.ListN.{length}
 use borrow.Author.Tests.{ltb-false}
-use Rattle.refusal.specs.Limits.{tagEnd, limitMax, groupMax}
-use Rattle.refusal.specs.LimitsLaws.{inside}
+use Rattle.refusal.specs.Limits.{tagEnd, groupMax}
 use Rattle.refusal.specs.Outcome.{Outcome, answered, refused, answeredBy}
 use Rattle.refusal.specs.Checks.{Pass}
-use Rattle.refusal.specs.ChecksLaws.{_then_, false-of-met, passed, checksBefore, inOrder-answered}
+use Rattle.refusal.specs.ChecksLaws.{_then_, false-of-met, passed, checksBefore}
 use Rattle.refusal.specs.PlaceLaws.{PlaceBelow, Numbered, below-checks, numbered-checks, met-below, first-below}
 use Rattle.group.specs.Ascending.{notAbove}
-use Rattle.group.specs.Placing.{Placement, placingChecks, placementOf, placingOf}
-use Rattle.placing.specs.Condition3Laws.{placing-condition3}
+use Rattle.group.specs.Placing.{Placement, placingChecks, placingOf}
+use Rattle.placing.specs.Condition3Laws.{placing-condition3, answered-checked}
 use Rattle.tag_index.specs.Answer64.{answer64, placeAnswer, cellWith, wordAfter}
 use Rattle.tag_index.specs.Answer64Laws.{Fits, outcome-answer}
 use Rattle.tag_index.specs.Condition3.{placed64, PlaceCondition3}
@@ -41,11 +40,8 @@ place-numbered tags limit = numbered-checks (placingChecks tags limit) _ refl tt
 
 -- A seed is below L.
 seed-small : (tags : List ℕ) (limit : ℕ) (placed : Placement) → placingOf tags limit ≡ answered placed → placed .seed < tagEnd
-unfolding placingOf placingChecks
 seed-small tags limit placed e =
-    let checks = placingChecks tags limit in
-    let (passes, told) = inOrder-answered checks (answered (placementOf tags limit)) e in
-    let legal = inside 1 limitMax limit (false-of-met _ (passed checks passes 4)) in
+    let legal = (answered-checked tags limit e) .limit-legal in
     omega (arith, legal .1, (placing-condition3 tags limit) .accepted placed e .below-limit)
 
 -- What an outcome of placing answers.
