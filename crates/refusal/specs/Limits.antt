@@ -1,4 +1,4 @@
--- The ranges of document 01 and the tag that document 02 reserves, each named once. Assumes nothing.
+-- The ranges of documents 01 and 02, and the tag that document 02 reserves, each named once. Assumes nothing.
 use Prim.Native.Nat.{ℕ}
 use mathlib.Core.Bool.{Bool, not, _&&_}
 use lib.Dec.{leb}
