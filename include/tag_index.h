@@ -1,13 +1,13 @@
-/* The C boundary of the two-choice tag index: building, checking and lookup.
+/* The C boundary of the two-choice tag index: building, checking, lookup and placing a group.
  *
  * The functions stand in libtag_index.a, for x86-64: `rt staticlib tag_index` writes it to
  * target/staticlib/.
  *
  * What a caller owes, and nothing else: each pointer and length is a valid range of memory, the
- * pointer not null even where the length is 0; the range that building writes overlaps no other;
- * and nothing else writes these ranges during the call. The bytes may be anything, the lengths
- * and the tag too. A function reads and writes only inside the ranges given, and its answer
- * depends on nothing but the arguments.
+ * pointer not null even where the length is 0, and `word` a cell; the range or cell that is written
+ * overlaps no other; and nothing else writes these ranges during the call. The bytes may be
+ * anything, the lengths, the tags and the limit too. A function reads and writes only inside the
+ * ranges given, and its answer depends on nothing but the arguments.
  *
  * Each answer is one 64-bit number. Below 2^32 it is what each function says; from 2^32 on it is a
  * refusal, number × 2^32 + place, to be taken apart by the functions below.
@@ -22,10 +22,10 @@
 extern "C" {
 #endif
 
-/* The ranges of document 01. Tag 0 is nobody's: it is reserved for an unwired point. */
+/* The ranges of documents 01 and 02. Tag 0 is nobody's: it is reserved for an unwired point. */
 #define TAG_INDEX_LARGEST_LIST 4096u   /* tags of a list, N */
 #define TAG_INDEX_LARGEST_GROUPS 512u  /* group count, B */
-#define TAG_INDEX_LARGEST_GROUP 24u    /* tags of a group */
+#define TAG_INDEX_LARGEST_GROUP 32u    /* tags of a group */
 #define TAG_INDEX_LARGEST_LIMIT 65536u /* seed limit, L */
 #define TAG_INDEX_LONGEST_TEXT 65527u  /* bytes of a list text that building examines */
 #define TAG_INDEX_LONGEST_IMAGE 50699u /* bytes of an image: a buffer so long is never too short */
@@ -41,12 +41,13 @@ enum tag_index_reason {
     TAG_INDEX_SEED_OUT_OF_RANGE = 2,
     TAG_INDEX_CHOICE_OUT_OF_RANGE = 3,
     TAG_INDEX_LIMIT_OUT_OF_RANGE = 4,        /* L is not 1 to 65,536 */
-    TAG_INDEX_TOO_MANY_TAGS = 5,             /* above 4,096 tags, or a text above 65,527 bytes */
+    TAG_INDEX_TOO_MANY_TAGS = 5,             /* above 4,096 tags, above 32 from placing, or a text
+                                              * above 65,527 bytes */
     TAG_INDEX_NOT_ASCENDING = 6,             /* index: this tag is not above the one before */
-    TAG_INDEX_NO_SEED = 7,                   /* group: no seed below L serves it */
+    TAG_INDEX_NO_SEED = 7,                   /* group: no seed below L serves it; 0 from placing */
     TAG_INDEX_GROUP_COUNT_OUT_OF_RANGE = 8,  /* B is not 1 to 512 */
     TAG_INDEX_BUFFER_TOO_SHORT = 9,          /* the buffer is shorter than the image */
-    TAG_INDEX_GROUP_TOO_LARGE = 10,          /* group: it has more than 24 tags */
+    TAG_INDEX_GROUP_TOO_LARGE = 10,          /* group: it has more than 32 tags */
     TAG_INDEX_WRONG_LENGTH = 11,             /* the image's length is not what line 0 says */
     TAG_INDEX_MALFORMED_LINE = 12,           /* line of the image */
     TAG_INDEX_FAULTY_GROUP = 13,             /* group: its start or its end does not fit */
@@ -75,6 +76,14 @@ uint64_t tag_index_check(const uint8_t *image, size_t image_length);
  * 11, 12 or 13 if one of the few lines that it reads is at fault. No image has tag 0, and for it
  * line 0 and the length alone are examined. */
 uint64_t tag_index_lookup(const uint8_t *image, size_t image_length, uint32_t tag);
+
+/* Places a group by itself: its tags in ascending order, and the seed limit L.
+ *
+ * Answers the least seed that serves the group, 0 to 65,535, and the cell `word` becomes the choice
+ * word: bit i is the choice of the tag with index i, and all 32 bits are used. Or refusal 4, 5, 6,
+ * 17 or 7; it leaves the cell as it was. */
+uint64_t tag_index_place_group(const uint32_t *tags, size_t tags_length, uint32_t limit,
+                               uint32_t *word);
 
 /* Whether an answer is a refusal. */
 static inline int tag_index_refused(uint64_t answer) { return (answer >> 32) != 0; }

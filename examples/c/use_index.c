@@ -1,5 +1,5 @@
-/* Uses the tag index from C: builds the image of a list, checks it, looks up tags, and shows what
- * refusals look like. tools/c-example compiles and runs it. */
+/* Uses the tag index from C: builds the image of a list, checks it, looks up tags, places a group,
+ * and shows what refusals look like. tools/c-example compiles and runs it. */
 #include <stdio.h>
 #include <string.h>
 
@@ -42,6 +42,21 @@ static void look_up(size_t length, uint32_t tag) {
     }
 }
 
+static void place(const uint32_t *tags, size_t count, uint32_t limit) {
+    uint32_t word = 0;
+    uint64_t answer = tag_index_place_group(tags, count, limit, &word);
+    if (tag_index_refused(answer)) {
+        printf("place: refusal %u at %u\n", (unsigned)tag_index_refusal_number(answer),
+               (unsigned)tag_index_refusal_place(answer));
+        return;
+    }
+    printf("place: seed %u, choices", (unsigned)answer);
+    for (size_t i = 0; i < count; i++) {
+        printf(" %u", (unsigned)(word >> i & 1));
+    }
+    printf("\n");
+}
+
 int main(void) {
     /* B = 2 groups, seed limit L = 9, and the tags 1, 2 and 3. */
     const char *list = "    2    9\n"
@@ -79,5 +94,16 @@ int main(void) {
     look_up(length, 0);
     look_up(length, 2);
     look_up(length, 3);
+
+    /* Groups placed by themselves. No seed below L = 1 serves the second, and seed 1 does; the
+     * third has a tag more than a group holds. */
+    const uint32_t first[] = {599, 1193};
+    const uint32_t second[] = {1, 3};
+    const uint32_t third[TAG_INDEX_LARGEST_GROUP + 1] = {1, 2, 3};
+    place(first, 2, 1);
+    place(second, 2, 1);
+    place(second, 2, 2);
+    place(third, TAG_INDEX_LARGEST_GROUP + 1, 1);
+    place(third, TAG_INDEX_LARGEST_GROUP, 1);
     return 0;
 }

@@ -71,7 +71,7 @@ fn build_admitted(tags: &[u32], groups: u32, limit: u32, buffer: &mut [u8]) -> B
     build_ordered(tags, groups, limit, &ordered, &ends, buffer)
 }
 
-// Building from the tags ordered by group, of which none has more than 24. The seeds and words of all groups are known before the
+// Building from the tags ordered by group, none of which is too large. The seeds and words of all groups are known before the
 // first byte is written.
 fn build_ordered(
     tags: &[u32],

@@ -34,7 +34,7 @@ module _
     pub group-within : entryOf places i choice < length tags
     group-within = rw group-place (group-below tags s i inside choice)
 
-  -- Both places of each tag are below 24.
+  -- Both places of each tag are places of a full group.
   pub group-candidates : Candidates places (length tags)
   group-candidates = record { size = group-cells; below = λ i lt choice. omega (arith, group-within i lt choice) }
 

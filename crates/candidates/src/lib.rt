@@ -10,8 +10,8 @@ ghost use Rattle.hash.specs.Formula.{hashed};
 ghost use Rattle.group.specs.Group.{candidates};
 ghost use Rattle.places.specs.Array.{laidInto};
 
-// Lays out the candidate places of the tags among n places: cell i has the first place of tag i, cell 24 + i the second. The other
-// cells stay.
+// Lays out the candidate places of the tags among n places: cell i has the first place of tag i, cell MEMBER_CELLS + i the second. The
+// other cells stay.
 pub fn candidate_places(tags: &[u32], n: u32, seed: u32, places: &mut [u32; places::PLACE_CELLS])
     requires { ⌜ (length (now tags) ≤ groupMax) × (seed ≤ seedMax) × (length (now places) ≡ 2 * groupMax) ⌝ }
     ensures cells { λ _. ⌜ now (places .exit) ≡ laidInto (candidates n seed (now (tags .entry))) (now (places .entry)) ⌝ }

@@ -1,4 +1,4 @@
-// Runs the three functions of the C boundary: the whole case of document 01, and refusals of each operation. Each answer is printed
+// Runs the four functions of the C boundary: the whole case of document 01, and refusals of each operation. Each answer is printed
 // as the number that C gets.
 
 // Prints the case's name and an answer.
@@ -15,6 +15,23 @@ fn build(name: &[u8], text: &[u8]) {
     answer(name, tag_index::tag_index_build(text, &mut image));
     report::words(&image);
     report::words(b"\n");
+}
+
+// Prints what stands in the cell that placing was lent.
+fn cell(word: &[u32; 1]) {
+    report::words(b"  cell");
+    report::numbers(word);
+    report::words(b"\n");
+}
+
+// Places a group, lending a cell that holds 77, and prints the answer and the cell.
+fn place(name: &[u8], tags: &[u32], limit: u32) {
+    let mut word: [u32; 1] = [77];
+    answer(
+        name,
+        tag_index::tag_index_place_group(tags, limit, &mut word),
+    );
+    cell(&word);
 }
 
 // Prints what checking answers, and lookups of the tags 0 to 4.
@@ -112,8 +129,62 @@ fn images() {
     );
 }
 
+// Seeds and words, among them one with bit 31; each refusal of placing, which leaves the cell, and which of two comes first.
+fn groups() {
+    place(b"worked value 3", &[1, 3], 2);
+    place(b"empty group", &[], 1);
+    place(b"tags with the same two places", &[599, 1193], 1);
+    let tags = [
+        89u32,
+        123,
+        157,
+        162,
+        164,
+        170,
+        188,
+        242,
+        328,
+        463,
+        546,
+        583,
+        618,
+        689,
+        703,
+        711,
+        735,
+        752,
+        803,
+        880,
+        1009,
+        1142,
+        1164,
+        1196,
+        1326,
+        1339,
+        1399,
+        1469,
+        1556,
+        1618,
+        1681,
+        1705,
+        1706,
+    ];
+    place(b"a path of 32 tags", &tags[..32], 1);
+    place(b"33 tags", &tags, 1);
+    place(b"33 tags, L = 0", &tags, 0);
+    place(b"L = 0", &[1, 3], 0);
+    place(b"L = 65537", &[1, 3], 65537);
+    place(b"tag 5 after tag 9", &[3, 9, 5], 1);
+    place(b"tag 5 twice, L = 65537", &[5, 5], 65537);
+    place(b"tag 0 twice", &[0, 0], 1);
+    place(b"tag 0", &[0], 1);
+    place(b"tag 0 and another, a seed above 0 with L = 1", &[0, 13], 1);
+    place(b"a seed above 0 with L = 1", &[1, 3], 1);
+}
+
 fn main() {
     building();
     long_texts();
     images();
+    groups();
 }

@@ -47,6 +47,79 @@ fn accepted() {
     );
 }
 
+// Groups of 25 and of 32 tags: as many as a group may hold.
+fn large_groups() {
+    image(
+        b"group of 25",
+        b"   25    1
+    0    0
+        13
+        26
+        20
+        18
+        10
+         2
+         5
+        28
+         7
+        11
+        12
+         4
+        17
+        30
+         9
+         1
+        14
+         6
+        19
+        22
+        15
+         3
+        16
+         8
+        21
+",
+    );
+    image(
+        b"group of 32",
+        b"   32    1
+    0    0
+        34
+        13
+        26
+        18
+        47
+        10
+        23
+         2
+         5
+        28
+         7
+        20
+        11
+        12
+        25
+         4
+        17
+         3
+        43
+        22
+        14
+         9
+         6
+        19
+        32
+        15
+        24
+         1
+        16
+        29
+         8
+        21
+",
+    );
+}
+
 // 11 and 12, and which comes first.
 fn lines() {
     image(b"no bytes", b"");
@@ -112,8 +185,8 @@ fn groups_and_slots() {
         b"    3    2\n    0    0\n99999    1\n         2\n         1\n         3\n",
     );
     image(
-        b"group of 25",
-        b"   25    1
+        b"group of 33",
+        b"   33    1
     0    0
          1
          2
@@ -140,6 +213,14 @@ fn groups_and_slots() {
         23
         24
         25
+        26
+        27
+        28
+        29
+        30
+        31
+        32
+        33
 ",
     );
     image(
@@ -211,6 +292,7 @@ fn unwired() {
 
 fn main() {
     accepted();
+    large_groups();
     lines();
     groups_and_slots();
     unwired();

@@ -37,18 +37,23 @@ fn places() {
     place(2, 1, 0, 3);
     place(2, 1, 1, 3);
     place(24, 65535, 1, 4294967295);
+    place(25, 65535, 1, 4294967295);
+    place(31, 65535, 1, 4294967295);
+    place(32, 65535, 1, 4294967295);
+    place(32, 0, 0, 47);
+    place(32, 0, 1, 47);
     place(1, 0, 0, 0);
-    place(24, 65535, 1, 0);
+    place(32, 65535, 1, 0);
 }
 
 // The refusals 1, 2, 3, and that the first condition met decides.
 fn refusals() {
     place(0, 0, 0, 7);
-    place(25, 0, 0, 7);
+    place(33, 0, 0, 7);
     place(4294967295, 4294967295, 4294967295, 7);
-    place(24, 65536, 0, 7);
-    place(24, 65536, 2, 7);
-    place(24, 65535, 2, 7);
+    place(32, 65536, 0, 7);
+    place(32, 65536, 2, 7);
+    place(32, 65535, 2, 7);
 }
 
 // Worked value 8, and the ends of the group count.

@@ -1,4 +1,4 @@
-// Runs cases of placing a group: worked values 4, 5, 6, 10 and 12, the traps, and each refusal.
+// Runs cases of placing a group: worked values 4, 5, 6, 10 and 12, the traps, groups of 32 tags, and each refusal.
 use placing::PlacingAnswer;
 
 fn place(tags: &[u32], limit: u32) {
@@ -44,73 +44,246 @@ fn limits() {
     place(&[1, 3], 4294967295);
 }
 
-// 24 tags pass to the search, 25 do not; the empty group; lists that do not ascend; and the order of the refusals.
+// 24 and 25 tags, and 32 with close numbers, are placed, 33 do not pass to the search; the empty group; lists that do not ascend; and
+// the order of the refusals.
 fn sizes() {
-    place(
-        &[
-            3,
-            7,
-            15,
-            31,
-            63,
-            127,
-            255,
-            511,
-            1023,
-            2047,
-            4095,
-            8191,
-            16383,
-            32767,
-            65535,
-            131071,
-            262143,
-            524287,
-            1048575,
-            2097151,
-            4194303,
-            8388607,
-            16777215,
-            33554431,
-        ],
-        65536,
-    );
-    place(
-        &[
-            3,
-            7,
-            15,
-            31,
-            63,
-            127,
-            255,
-            511,
-            1023,
-            2047,
-            4095,
-            8191,
-            16383,
-            32767,
-            65535,
-            131071,
-            262143,
-            524287,
-            1048575,
-            2097151,
-            4194303,
-            8388607,
-            16777215,
-            33554431,
-            67108863,
-        ],
-        65536,
-    );
+    let tags = [
+        3u32,
+        7,
+        15,
+        31,
+        63,
+        127,
+        255,
+        511,
+        1023,
+        2047,
+        4095,
+        8191,
+        16383,
+        32767,
+        65535,
+        131071,
+        262143,
+        524287,
+        1048575,
+        2097151,
+        4194303,
+        8388607,
+        16777215,
+        33554431,
+        67108863,
+    ];
+    place(&tags[..24], 65536);
+    place(&tags, 65536);
+    let close = [
+        1u32,
+        2,
+        3,
+        4,
+        5,
+        6,
+        7,
+        8,
+        9,
+        10,
+        11,
+        12,
+        13,
+        14,
+        15,
+        16,
+        17,
+        18,
+        19,
+        20,
+        21,
+        22,
+        23,
+        24,
+        25,
+        26,
+        28,
+        29,
+        32,
+        34,
+        43,
+        47,
+        48,
+    ];
+    place(&close[..32], 1);
+    place(&close, 65536);
     place(&[], 1);
     place(&[4294967295], 1);
     place(&[5, 5], 1);
     place(&[9, 5], 1);
     place(&[1, 2, 3, 2, 1], 0);
     place(&[1, 2, 3, 2, 1], 1);
+}
+
+// 32 tags that seed 0 serves. Each has the place of the one before and the next, the first one place: all others take their second,
+// and the word has 31 ones above bit 0.
+fn path() {
+    place(
+        &[
+            89,
+            123,
+            157,
+            162,
+            164,
+            170,
+            188,
+            242,
+            328,
+            463,
+            546,
+            583,
+            618,
+            689,
+            703,
+            711,
+            735,
+            752,
+            803,
+            880,
+            1009,
+            1142,
+            1164,
+            1196,
+            1326,
+            1339,
+            1399,
+            1469,
+            1556,
+            1618,
+            1681,
+            1705,
+        ],
+        1,
+    );
+}
+
+// The path from its other end: every tag has its first place until the last one comes, which moves them all: 31 evictions.
+fn path_to_be_moved_along() {
+    place(
+        &[
+            34,
+            102,
+            162,
+            164,
+            170,
+            188,
+            242,
+            328,
+            463,
+            546,
+            583,
+            618,
+            689,
+            703,
+            711,
+            735,
+            752,
+            803,
+            880,
+            1009,
+            1142,
+            1164,
+            1196,
+            1326,
+            1339,
+            1399,
+            1469,
+            1556,
+            1618,
+            1681,
+            1705,
+            1775,
+        ],
+        1,
+    );
+}
+
+// A path of 30 places with a fork: the last tag's eviction goes down the path and comes back, 61 evictions of the 63 that there may be.
+fn lollipop() {
+    place(
+        &[
+            89,
+            123,
+            191,
+            196,
+            321,
+            353,
+            415,
+            457,
+            528,
+            529,
+            579,
+            661,
+            695,
+            700,
+            702,
+            708,
+            726,
+            814,
+            934,
+            1061,
+            1154,
+            1166,
+            1236,
+            1323,
+            1385,
+            1427,
+            1553,
+            1554,
+            1578,
+            1595,
+            1615,
+            1636,
+        ],
+        1,
+    );
+}
+
+// A word with ones and zeros in every byte, and bit 31; tags with the same two places, and one with equal places.
+fn all_kinds_of_bits() {
+    place(
+        &[
+            44,
+            46,
+            64,
+            75,
+            105,
+            113,
+            152,
+            177,
+            227,
+            258,
+            288,
+            312,
+            341,
+            355,
+            356,
+            383,
+            430,
+            454,
+            474,
+            484,
+            501,
+            522,
+            557,
+            590,
+            594,
+            626,
+            635,
+            652,
+            670,
+            675,
+            705,
+            721,
+        ],
+        1,
+    );
 }
 
 // Tag 0 is nobody's: 17 alone, worked values 4 and 5; before 7, worked value 6; and behind 4, 5 and 6. A 0 that is not first is 6.
@@ -121,36 +294,43 @@ fn unwired() {
     place(&[0, 1073741824, 3221225472], 1);
     place(&[0, 3], 0);
     place(&[0, 3], 65537);
-    place(
-        &[
-            0,
-            1,
-            2,
-            3,
-            4,
-            5,
-            6,
-            7,
-            8,
-            9,
-            10,
-            11,
-            12,
-            13,
-            14,
-            15,
-            16,
-            17,
-            18,
-            19,
-            20,
-            21,
-            22,
-            23,
-            24,
-        ],
-        65536,
-    );
+    let tags = [
+        0u32,
+        1,
+        2,
+        3,
+        4,
+        5,
+        6,
+        7,
+        8,
+        9,
+        10,
+        11,
+        12,
+        13,
+        14,
+        15,
+        16,
+        17,
+        18,
+        19,
+        20,
+        21,
+        22,
+        23,
+        24,
+        25,
+        26,
+        27,
+        28,
+        29,
+        30,
+        31,
+        32,
+    ];
+    place(&tags, 65536);
+    place(&tags[..32], 65536);
     place(&[0, 0], 1);
     place(&[0, 7, 7], 9);
     place(&[7, 0], 9);
@@ -160,5 +340,9 @@ fn main() {
     traps();
     limits();
     sizes();
+    path();
+    path_to_be_moved_along();
+    lollipop();
+    all_kinds_of_bits();
     unwired();
 }

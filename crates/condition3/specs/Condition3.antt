@@ -7,7 +7,7 @@ use mathlib.Core.Bool.{Bool, true, false}
 use mathlib.Core.List.{List}
 use Prim.Native.Nat.{ℕ, suc, _+_, _*_, _≤_, _<_}
 use lib.ListN.{length, getD, take}
-use Rattle.refusal.specs.Limits.{tagEnd}
+use Rattle.refusal.specs.Limits.{tagEnd, tagsMax, groupsMax, limitMax, groupMax}
 use Rattle.refusal.specs.Outcome.{Outcome, answered, refused}
 use Rattle.text.specs.Line.{lineAt, pairLine}
 use Rattle.lists.specs.Occurs.{occurs}
@@ -43,13 +43,13 @@ pub record LowestWithout (groups : ℕ) (tags : List ℕ) (limit g : ℕ) : Type
 -- "The earlier checks are those that building makes before 7": the seven conditions on the inputs. The first tag, where there is one,
 -- is not 0.
 pub record EarlierChecks (tags : List ℕ) (groups limit room : ℕ) : Type 0 where
-  pub groups-legal : (1 ≤ groups) × (groups ≤ 512)
-  pub limit-legal : (1 ≤ limit) × (limit ≤ 65536)
-  pub count-legal : length tags ≤ 4096
+  pub groups-legal : (1 ≤ groups) × (groups ≤ groupsMax)
+  pub limit-legal : (1 ≤ limit) × (limit ≤ limitMax)
+  pub count-legal : length tags ≤ tagsMax
   pub ascending : (i : ℕ) → suc i < length tags → getD tags i 0 < getD tags (suc i) 0
   pub wired : 0 < length tags → 0 < getD tags 0 0
   pub fits : 11 * (1 + groups + length tags) ≤ room
-  pub groups-small : (g : ℕ) → g < groups → length (members groups g tags) ≤ 24
+  pub groups-small : (g : ℕ) → g < groups → length (members groups g tags) ≤ groupMax
 
 -- The tag of the list whose number is j.
 pub record TagOf (tags : List ℕ) (numberFor : ℕ → ℕ) (j : ℕ) : Type 0 where

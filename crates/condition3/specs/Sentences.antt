@@ -10,7 +10,7 @@ use native.Mathlib.Omega.{arith}
 use lib.Dec.{ltb}
 use lib.ListN.{length, getD, take}
 use borrow.Author.Tests.{ltb-true, ltb-false, not-true, not-false}
-use Rattle.refusal.specs.Limits.{tagEnd}
+use Rattle.refusal.specs.Limits.{tagEnd, tagsMax, groupsMax, limitMax, groupMax}
 use Rattle.refusal.specs.Outcome.{Outcome, answered, refused}
 use Rattle.lists.specs.First.{first, isSome}
 use Rattle.lists.specs.FirstLaws.{first-some, first-none, some-of-isSome, none-of-isSome}
@@ -128,11 +128,12 @@ module _ {tags : List ℕ} {groups limit room : ℕ} {answer : Outcome ℕ} {aft
   passed-over-refused = c .no-seed
 
   -- "A list that passes all earlier checks": 8, 4, 5, 6, 17, 9 and 10.
-  module _ (groups-legal : (1 ≤ groups) × (groups ≤ 512)) (limit-legal : (1 ≤ limit) × (limit ≤ 65536)) (count-legal : length tags ≤ 4096)
+  module _ (groups-legal : (1 ≤ groups) × (groups ≤ groupsMax)) (limit-legal : (1 ≤ limit) × (limit ≤ limitMax))
+      (count-legal : length tags ≤ tagsMax)
       (ascending : (i : ℕ) → suc i < length tags → getD tags i 0 < getD tags (suc i) 0)
       (wired : 0 < length tags → 0 < getD tags 0 0)
       (fits : 11 * (1 + groups + length tags) ≤ room)
-      (small : (g : ℕ) → g < groups → length (members groups g tags) ≤ 24) where
+      (small : (g : ℕ) → g < groups → length (members groups g tags) ≤ groupMax) where
     checks : EarlierChecks tags groups limit room
     checks = record {
       groups-legal = groups-legal;

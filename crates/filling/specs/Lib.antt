@@ -14,3 +14,4 @@ pub mod WeightLaws
 pub mod Insertion
 pub mod InsertionLaws
 pub mod LightestLaws
+pub mod PathLaws

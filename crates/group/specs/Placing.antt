@@ -19,7 +19,7 @@ pub record Placement : Type 0 where
   pub seed : ℕ
   pub word : ℕ
 
--- "4: L not 1 to 65,536. 5: more than 24 tags. 6: not strictly ascending, at the first index whose tag is not above the one
+-- "4: L not 1 to 65,536. 5: more than [32] tags. 6: not strictly ascending, at the first index whose tag is not above the one
 -- before. 7: no seed below L has a filling sequence." Placing's 7 names no group. Document 02, §1:
 -- "17 if the first tag is 0, directly after 6".
 unfoldable pub placingChecks : List ℕ → ℕ → List Check

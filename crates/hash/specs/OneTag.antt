@@ -7,7 +7,7 @@ use Rattle.refusal.specs.Outcome.{Outcome, answered}
 use Rattle.refusal.specs.Checks.{Check, met, inOrder}
 use Rattle.hash.specs.Formula.{placeOf}
 
--- "Refusal 1: n is not 1 to 24. 2: seed above 65,535. 3: choice above 1."
+-- "Refusal 1: n is not 1 to [32]. 2: seed above 65,535. 3: choice above 1."
 unfoldable pub oneTagChecks : ℕ → ℕ → ℕ → List Check
 oneTagChecks n s c =
     (1, met (outside 1 groupMax n))

@@ -48,7 +48,7 @@ slotIn v j = Option·getD (v .slotAt (slotLineIn v j)) 0
 unfoldable pub endIn : View → ℕ → ℕ
 endIn v g = cond (ltb (suc g) (groupsIn v)) (startIn v (suc g)) (countIn v)
 
--- "group 0 does not start at 0, or the next start (N after the last group) is lower than its own, or is more than 24 above"
+-- "group 0 does not start at 0, or the next start (N after the last group) is lower than its own, or is more than [32] above"
 unfoldable pub faulty : ℕ → ℕ → ℕ → Bool
 faulty g start next = eqb g 0 && not (eqb start 0) || (ltb next start || ltb (start + groupMax) next)
 

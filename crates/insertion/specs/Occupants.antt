@@ -24,7 +24,7 @@ placeTaken places word i = entryOf places i (choiceIn word i)
 abbrev pub keyIn : List ℕ → ℕ → ℕ → ℕ → Option ℕ
 keyIn places word count v = first (λ i. eqb (placeTaken places word i) v) count
 
--- The cells of all 24 places for the first `count` keys under a word.
+-- The cells of all places of a full group for the first `count` keys under a word.
 unfoldable pub occupantsOf : List ℕ → ℕ → ℕ → List ℕ
 occupantsOf places word count = upTo groupMax (λ v. cellOf (keyIn places word count v))
 

@@ -37,7 +37,7 @@ choicesTaken groups tags limit g = taken (members groups g tags) (seedTaken grou
 unfoldable pub imageOf : ℕ → List ℕ → ℕ → List ℕ
 imageOf groups tags limit = bytesOf (sheetOf groups tags (seedTaken groups tags limit) (choicesTaken groups tags limit))
 
--- "a group has more than 24 tags"; a "group without a seed".
+-- "a group has more than [32] tags"; a "group without a seed".
 abbrev pub tooLarge : ℕ → List ℕ → ℕ → Bool
 tooLarge groups tags g = ltb groupMax (length (members groups g tags))
 
@@ -45,7 +45,7 @@ abbrev pub seedless : ℕ → List ℕ → ℕ → ℕ → Bool
 seedless groups tags limit g = not (isSome (leastSeed (members groups g tags) limit))
 
 -- "8: B not 1 to 512. 4 as above. 5: more than 4,096 tags. 6 as above. 9: buffer shorter than the image. 10: a group has more than
--- 24 tags, at the lowest such group." Document 02, §1: "17 if the first tag is 0, directly after 6". The buffer has `room` bytes.
+-- [32] tags, at the lowest such group." Document 02, §1: "17 if the first tag is 0, directly after 6". The buffer has `room` bytes.
 -- "The earlier checks are those that building makes before 7."
 unfoldable pub earlierChecks : List ℕ → ℕ → ℕ → ℕ → List Check
 earlierChecks tags groups limit room =

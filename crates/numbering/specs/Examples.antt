@@ -45,7 +45,7 @@ seventeen-before-nine : buildingOf (0 ∷ 1 ∷ []) 1 1 0 ≡ refused 17 0
 unfolding computed
 seventeen-before-nine = refl
 
--- The tags 1 to 25 in one group, which are too many for it.
+-- One tag more than a group holds, in one group.
 nine-before-ten : buildingOf (upTo (suc groupMax) suc) 1 1 0 ≡ refused 9 0
 unfolding computed
 nine-before-ten = refl

@@ -9,12 +9,12 @@ use Rattle.refusal.specs.Limits.{groupMax}
 use Rattle.lists.specs.UpTo.{upTo}
 use Rattle.filling.specs.Filling.{Key, placeBy}
 
--- The place of key i under a choice: cell i for its first place, cell 24 + i for its second. Past the array's end a place is 0.
+-- The place of key i under a choice: cell i for its first place, cell groupMax + i for its second. Past the array's end a place is 0.
 unfoldable pub entryOf : List ℕ → ℕ → Bool → ℕ
 entryOf places i false = getD places i 0
 entryOf places i true = getD places (groupMax + i) 0
 
--- An array with two cells for each of 24 keys, in which both candidate places of the first `count` keys are below 24.
+-- An array with two cells for each key of a full group, in which both candidate places of the first `count` keys are its places.
 pub record Candidates (places : List ℕ) (count : ℕ) : Type 0 where
   pub size : length places ≡ 2 * groupMax
   pub below : (i : ℕ) → i < count → (choice : Bool) → entryOf places i choice < groupMax
@@ -30,7 +30,7 @@ keysOf count places = upTo count (keyAt places)
 unfoldable pub placesBy : Bool → List Key → List ℕ
 placesBy choice keys = map (placeBy choice) keys
 
--- The array with the places of keys laid into it: the first from cell 0 on, the second from cell 24 on; the other cells are as before.
+-- The array with the places of keys laid into it: the first from cell 0 on, the second from its middle on; the other cells are as before.
 unfoldable pub laidInto : List Key → List ℕ → List ℕ
 laidInto keys before =
     paste (paste before 0 (placesBy false keys) (length keys)) groupMax (placesBy true keys) (length keys)

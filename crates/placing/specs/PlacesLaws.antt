@@ -18,7 +18,7 @@ module _ (tags : List ℕ) (before : List ℕ) (few : length tags ≤ groupMax) 
   after-length zero = size
   after-length (suc s) = group-cells tags s (laidAfter tags s before) few (after-length s) refl
 
-  -- Under the seed found, both places of each tag are below 24, and the array states the group's keys.
+  -- Under the seed found, both places of each tag are places of a full group, and the array states the group's keys.
   pub left-places : (s limit : ℕ) {places : List ℕ} → places ≡ laidAfter tags (tried (some s) limit) before
       → Candidates places (length tags) × (keysOf (length tags) places ≡ groupUnder tags s)
   unfolding tried laidAfter

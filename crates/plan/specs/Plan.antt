@@ -34,7 +34,7 @@ seedsPlanned ordered ends limit = cellsPlanned (partSeed ordered ends limit)
 abbrev pub wordsPlanned : List ℕ → List ℕ → ℕ → ℕ → List ℕ → List ℕ
 wordsPlanned ordered ends limit = cellsPlanned (partWord ordered ends limit)
 
--- What planning is given: a legal limit, and parts of at most 24 tags in ascending order, none of them tag 0.
+-- What planning is given: a legal limit, and parts of no more tags than a group holds, in ascending order, none of them tag 0.
 pub record Plannable (groups : ℕ) (ordered ends : List ℕ) (limit : ℕ) : Type 0 where
   pub parts : Parts groups ordered ends
   pub limit-legal : (1 ≤ limit) × (limit ≤ limitMax)

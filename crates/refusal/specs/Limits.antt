@@ -1,4 +1,4 @@
--- The ranges of document 01 and the tag that document 02 reserves, each named once. Assumes nothing.
+-- The ranges of documents 01 and 02, and the tag that document 02 reserves, each named once. Assumes nothing.
 use Prim.Native.Nat.{ℕ}
 use mathlib.Core.Bool.{Bool, not, _&&_}
 use lib.Dec.{leb}
@@ -23,9 +23,10 @@ limitMax = 65536
 abbrev pub seedMax : ℕ
 seedMax = 65535
 
--- "A group holds 0 to 24 tags"
+-- "A group holds 0 to [32] tags"; "A group may now hold 32 tags": document 02, §2. A quotation of document 01 in which that changes the
+-- number has it in brackets.
 abbrev pub groupMax : ℕ
-groupMax = 24
+groupMax = 32
 
 -- "Input above 65,527 bytes is refused with 5 at place 0, unexamined": the printer's input and the C boundary's
 abbrev pub textMax : ℕ

@@ -1,11 +1,15 @@
--- When a number is outside a range, and when it is in it. Assumes nothing.
+-- When a number is outside a range, and when it is in it; and how many bits a choice word has. Assumes nothing.
 use mathlib.Core.Path.{_≡_, refl, sym}
 use mathlib.Core.Bool.{Bool, true, false}
-use Prim.Native.Nat.{ℕ, _≤_, _<_}
+use Prim.Native.Nat.{ℕ, _^_, _≤_, _<_}
 use native.Mathlib.Omega.{arith}
 use lib.Dec.{leb, ltb}
 use borrow.Author.Tests.{leb-true, le-leb, lt-leb, ltb-true, ltb-false}
-use Rattle.refusal.specs.Limits.{outside}
+use Rattle.refusal.specs.Limits.{tagEnd, groupMax, outside}
+
+-- "the choice word uses all 32 bits": document 02, §2. A bit for each tag of a full group makes a number of 32 bits.
+pub word-bits : 2 ^ groupMax ≡ tagEnd
+word-bits = refl
 
 pub outside-below : (low high x : ℕ) → x < low → outside low high x ≡ true
 unfolding outside

@@ -8,7 +8,7 @@ use Rattle.refusal.specs.declared.Reason.the-variants.{GroupTooLarge, Wr
 use Rattle.refusal.specs.declared.Reason.the-variants.{RepeatedTag, MalformedList, UnwiredTag}
 use Rattle.refusal.specs.declared.Refusal.{Refusal}
 
--- "Refusal 1: n is not 1 to 24. 2: seed above 65,535. …": document 01, "Operations and what stops each"; 17: document 02, §1.
+-- "Refusal 1: n is not 1 to [32]. 2: seed above 65,535. …": document 01, "Operations and what stops each"; 17: document 02, §1.
 abbrev pub reasonNumber : Reason → ℕ
 reasonNumber SizeOutOfRange = 1
 reasonNumber SeedOutOfRange = 2

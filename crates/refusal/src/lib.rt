@@ -1,9 +1,9 @@
-// Refusals: the reason for one, the place that it names, and the paper's number of each reason; and the ranges of document 01.
+// Refusals: the reason for one, the place that it names, and the paper's number of each reason; and the ranges of documents 01 and 02.
 ghost use mathlib.Core.Path.{_≡_};
 ghost use Rattle.refusal.specs.Limits.{outside};
 ghost use Rattle.refusal.specs.Reason.{reasonNumber};
 
-// The ranges of document 01: the greatest tag; the most tags of a list, groups, and tags of a group; the greatest seed limit and
+// The ranges of documents 01 and 02: the greatest tag; the most tags of a list, groups, and tags of a group; the greatest seed limit and
 // seed; and the most bytes of a list text that the printer and the C boundary examine.
 pub const TAG_MAX: u64 = 4294967295;
 
@@ -11,7 +11,7 @@ pub const TAGS_MAX: usize = 4096;
 
 pub const GROUPS_MAX: u32 = 512;
 
-pub const GROUP_MAX: u32 = 24;
+pub const GROUP_MAX: u32 = 32;
 
 pub const LIMIT_MAX: u32 = 65536;
 

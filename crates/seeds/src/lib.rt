@@ -18,7 +18,7 @@ pub enum Found {
     Nothing,
 }
 
-// Each number up to 24, as one of 32 bits.
+// Each number up to the most tags of a group, as one of 32 bits.
 const SIZES: [u32; refusal::MEMBER_CELLS + 1] = [
     0,
     1,
@@ -45,6 +45,14 @@ const SIZES: [u32; refusal::MEMBER_CELLS + 1] = [
     22,
     23,
     24,
+    25,
+    26,
+    27,
+    28,
+    29,
+    30,
+    31,
+    32,
 ];
 
 // The number of tags of a group. Read from a table, it is known to the compiler as a number of 32 bits, which it needs to hash several

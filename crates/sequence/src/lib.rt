@@ -18,7 +18,7 @@ pub enum Choices {
 }
 
 // The least choice sequence of `count` keys, by weighted insertion: key after key goes in, and the word stays the lightest.
-// Entry i of `places` is the first place of key i, entry 24 + i its second.
+// Entry i of `places` is the first place of key i, entry MEMBER_CELLS + i its second.
 pub fn least_choices(places: &[u32], count: u32) -> Choices
     requires { ⌜ (count ≤ groupMax) × Candidates (now places) count ⌝ }
     ensures answer { λ r. ⌜ choicesMeaning r ≡ Option·map wordOf (least (keysOf count (now (places .entry)))) ⌝ }

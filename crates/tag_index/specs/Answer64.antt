@@ -1,10 +1,11 @@
 -- What each call over the C boundary answers. Assumes nothing.
 use Prim.Native.Nat.{ℕ, _+_, _*_, _/_, _%_}
 use mathlib.Core.Bool.{cond}
-use mathlib.Core.List.{List}
+use mathlib.Core.List.{List, [], _∷_}
 use lib.Dec.{ltb}
 use Rattle.refusal.specs.Limits.{tagEnd}
 use Rattle.refusal.specs.Outcome.{Outcome, answered, refused, answeredBy}
+use Rattle.group.specs.Placing.{Placement, placingOf}
 use Rattle.image.specs.Checking.{checkingOf}
 use Rattle.image.specs.Lookup.{Found, number, unknown, lookupOf}
 use Rattle.numbering.specs.FromText.{buildingFromText}
@@ -23,7 +24,7 @@ unfoldable pub foundNumber : Found → ℕ
 foundNumber (number j) = j
 foundNumber unknown = 4294967295
 
--- The three calls. Building takes a list text and a buffer of `room` bytes.
+-- The calls. Building takes a list text and a buffer of `room` bytes.
 unfoldable pub buildAnswer : List ℕ → ℕ → ℕ
 buildAnswer text room = answer64 (buildingFromText text room)
 
@@ -32,3 +33,14 @@ checkAnswer image = answer64 (checkingOf image)
 
 unfoldable pub lookupAnswer : List ℕ → ℕ → ℕ
 lookupAnswer image tag = answer64 (answeredBy foundNumber (lookupOf image tag))
+
+-- Placing answers the seed, and leaves the choice word in the one cell that it is lent; "a refusal leaves lent cells as they were".
+unfoldable pub placeAnswer : List ℕ → ℕ → ℕ
+placeAnswer tags limit = answer64 (answeredBy (λ (placed : Placement). placed .seed) (placingOf tags limit))
+
+unfoldable pub cellWith : Outcome Placement → List ℕ → List ℕ
+cellWith (answered placed) before = placed .word ∷ []
+cellWith (refused reason place) before = before
+
+unfoldable pub wordAfter : List ℕ → ℕ → List ℕ → List ℕ
+wordAfter tags limit before = cellWith (placingOf tags limit) before

@@ -1,8 +1,9 @@
-// The C boundary: the three operations as functions that C and Rust link, each with one 64-bit answer. A slice is passed as a
-// pointer and a length.
+// The C boundary: operations as functions that C and Rust link, each with one 64-bit answer. A slice is passed as a pointer and a
+// length, a reference to an array as a pointer.
 use building::BuildAnswer;
 use checking::CheckAnswer;
 use lookup::LookupAnswer;
+use placing::PlacingAnswer;
 use refusal::Refusal;
 ghost use mathlib.Core.Path.{_≡_};
 ghost use Prim.Native.Nat.{_<_};
@@ -10,9 +11,9 @@ ghost use lib.ListN.{length};
 ghost use Rattle.refusal.specs.Limits.{tagEnd};
 ghost use Rattle.refusal.specs.Reason.{refusalOf};
 ghost use Rattle.numbering.specs.FromText.{bufferFromText};
-ghost use Rattle.tag_index.specs.Answer64.{answer64, buildAnswer, checkAnswer, lookupAnswer};
+ghost use Rattle.tag_index.specs.Answer64.{answer64, buildAnswer, checkAnswer, lookupAnswer, placeAnswer, wordAfter};
 ghost use Rattle.tag_index.specs.Condition2.{AnswerCondition2};
-ghost use Rattle.tag_index.specs.Condition3.{BuildCondition3};
+ghost use Rattle.tag_index.specs.Condition3.{BuildCondition3, PlaceCondition3};
 
 // Builds the image of a list text at the beginning of `image`, and answers its length.
 #[no_mangle]
@@ -48,6 +49,22 @@ pub extern "C" fn tag_index_lookup(image: &[u8], tag: u32) -> u64
         LookupAnswer::Number(j) => j as u64,
         LookupAnswer::Unknown => UNKNOWN,
         LookupAnswer::Refused(refusal) => refusal_answer(refusal),
+    }
+}
+
+// Places a group: answers its least seed, and leaves the choice word in the cell.
+#[no_mangle]
+pub extern "C" fn tag_index_place_group(tags: &[u32], limit: u32, word: &mut [u32; 1]) -> u64
+    ensures answer { λ r. ⌜ r ≡ placeAnswer (now (tags .entry)) limit ⌝ }
+    ensures cell { λ _. ⌜ now (word .exit) ≡ wordAfter (now (tags .entry)) limit (now (word .entry)) ⌝ }
+    ensures condition3 { λ r. ⌜ PlaceCondition3 (now (tags .entry)) limit r (now (word .exit)) ⌝ }
+{
+    match placing::place_group(tags, limit) {
+        PlacingAnswer::Placed(seed, choices) => {
+            *word = [choices];
+            seed as u64
+        }
+        PlacingAnswer::Refused(refusal) => refusal_answer(refusal),
     }
 }
 

@@ -1,4 +1,4 @@
-//! The lists that are built, checked and looked up in.
+//! The lists that are built, checked and looked up in, and the groups that are placed.
 
 use model::hash::{group_of, place_of};
 use model::list_text;
@@ -15,8 +15,20 @@ pub struct Case {
     pub tags: Vec<u32>,
 }
 
+/// Random groups of one size, each placed by itself.
+pub struct Groups {
+    /// The name that `--count` takes.
+    pub name: &'static str,
+    pub title: &'static str,
+    pub groups: Vec<Vec<u32>>,
+}
+
 /// All seeds are allowed in every case.
 pub const LIMIT: u32 = 65_536;
+
+/// The most tags of a group in the cases of 171 groups, just enough for 4,096 in all. A group can hold
+/// more; these lists stay as they are, so that times and counts can be compared with earlier ones.
+const SHARE_OF_171: usize = 24;
 
 impl Case {
     pub fn text(&self) -> Vec<u8> {
@@ -66,7 +78,7 @@ pub fn built() -> Vec<Case> {
             "512-random",
             "4,096 random tags, B = 512",
             512,
-            random(1, 4_096, 512),
+            random(1, 4_096, 512, LARGEST_GROUP),
         ),
         case(
             "512-walked",
@@ -78,29 +90,42 @@ pub fn built() -> Vec<Case> {
             "171-random",
             "4,096 random tags, B = 171",
             171,
-            random(2, 4_096, 171),
+            random(2, 4_096, 171, SHARE_OF_171),
         ),
         case(
             "171-walked",
             "4,096 almost consecutive tags, B = 171",
             171,
-            walked(4_096, 171, LARGEST_GROUP),
+            walked(4_096, 171, SHARE_OF_171),
+        ),
+        // All groups are full.
+        case(
+            "128-random",
+            "4,096 random tags, B = 128",
+            128,
+            random(6, 4_096, 128, LARGEST_GROUP),
+        ),
+        case(
+            "128-walked",
+            "4,096 almost consecutive tags, B = 128",
+            128,
+            walked(4_096, 128, LARGEST_GROUP),
         ),
         case(
             "32-random",
             "256 random tags, B = 32",
             32,
-            random(3, 256, 32),
+            random(3, 256, 32, LARGEST_GROUP),
         ),
     ]
 }
 
 /// One group that no seed serves, so that all of them are tried.
 ///
-/// The tags are multiples of 2^28 or 2^27, so their places under a seed depend on the seed's lowest
-/// two or three bits only: four or eight seeds stand for all. In the cases "dropped" the occupancy
-/// word drops every seed; in the cases "evicted" it drops none, and a chain of evictions ends the
-/// test of each.
+/// The tags are multiples of 2^28, 2^27 or 2^26, so their places under a seed depend on the seed's
+/// lowest two, three or four bits only: four, eight or sixteen seeds stand for all. In the cases
+/// "dropped" the occupancy word drops every seed; in the cases "evicted" it drops none, and a chain
+/// of evictions ends the test of each.
 pub fn unserved() -> Vec<Case> {
     let case = |name, title, shift, multiples: &[u32]| Case {
         name,
@@ -109,6 +134,10 @@ pub fn unserved() -> Vec<Case> {
         tags: multiples.iter().map(|multiple| multiple << shift).collect(),
     };
     let first_24: Vec<u32> = (1..=24).collect();
+    let no_fourth: Vec<u32> = (1..)
+        .filter(|multiple| multiple % 4 != 0)
+        .take(32)
+        .collect();
     vec![
         case(
             "8-dropped",
@@ -137,6 +166,38 @@ pub fn unserved() -> Vec<Case> {
                 30, 31,
             ],
         ),
+        case(
+            "32-dropped",
+            "32 tags that no seed serves, all seeds dropped early",
+            26,
+            &no_fourth,
+        ),
+        case(
+            "32-evicted",
+            "32 tags that no seed serves, none dropped early",
+            26,
+            &[
+                1, 2, 3, 4, 5, 9, 13, 15, 16, 17, 18, 21, 22, 25, 27, 29, 31, 32, 33, 34, 37, 41,
+                42, 45, 47, 49, 52, 53, 57, 58, 61, 63,
+            ],
+        ),
+    ]
+}
+
+/// Groups that are placed; some seed serves each.
+pub fn placed() -> Vec<Groups> {
+    let mut random = Random::new(7);
+    let mut groups = |name, title, count, size| Groups {
+        name,
+        title,
+        groups: iter::repeat_with(|| random.tags(size))
+            .take(count)
+            .collect(),
+    };
+    vec![
+        groups("8", "a group of 8 random tags, mean of 1,000", 1_000, 8),
+        groups("24", "a group of 24 random tags, mean of 1,000", 1_000, 24),
+        groups("32", "a group of 32 random tags, mean of 100", 100, 32),
     ]
 }
 
@@ -145,12 +206,12 @@ pub fn walked(count: usize, groups: u32, most: usize) -> Vec<u32> {
     with_room(1.., count, groups, most)
 }
 
-/// Random tags, none of them in a group that is full.
-fn random(seed: u64, count: usize, groups: u32) -> Vec<u32> {
+/// Random tags, none of them in a group that has `most` already.
+fn random(seed: u64, count: usize, groups: u32, most: usize) -> Vec<u32> {
     let mut random = Random::new(seed);
     let mut drawn = HashSet::new();
     let tags = iter::repeat_with(|| random.tag()).filter(|&tag| drawn.insert(tag));
-    let mut tags = with_room(tags, count, groups, LARGEST_GROUP);
+    let mut tags = with_room(tags, count, groups, most);
     tags.sort_unstable();
     tags
 }
@@ -184,14 +245,30 @@ pub fn passing(tags: &[u32]) -> usize {
 
 #[cfg(test)]
 mod tests {
-    use super::{passing, unserved, LIMIT};
-    use crate::plain::least_seed;
+    use super::{built, passing, unserved, LARGEST_GROUP, LIMIT};
+    use crate::plain::place_group;
+
+    #[test]
+    fn the_groups_of_128_are_full() {
+        let mut cases = built();
+        cases.retain(|case| case.groups == 128);
+        assert_eq!(cases.len(), 2);
+        for case in cases {
+            assert_eq!(
+                case.sizes(),
+                (LARGEST_GROUP, LARGEST_GROUP),
+                "{}",
+                case.title
+            );
+        }
+    }
 
     #[test]
     fn no_seed_serves_these_groups_and_all_seeds_are_dropped_early_or_none() {
         for case in unserved() {
             assert!(!case.tags.contains(&0), "{}", case.title);
-            assert_eq!(least_seed(&case.tags, LIMIT), None, "{}", case.title);
+            let answer = place_group(&case.tags, LIMIT, &mut [0]);
+            assert_eq!(answer, 7 << 32, "{}", case.title);
             let dropped = case.name.ends_with("dropped");
             let passing_due = if dropped { 0 } else { LIMIT as usize };
             assert_eq!(passing(&case.tags), passing_due, "{}", case.title);

@@ -3,7 +3,7 @@
 //! What is counted besides the operation is the same for every number of repetitions, so the
 //! difference of two runs is what the repetitions between them take.
 
-use crate::cases::{self, Case};
+use crate::cases::{self, Case, LIMIT};
 use crate::versions::{Version, BOTH, PLAIN};
 use random::Random;
 use std::hint::black_box;
@@ -12,19 +12,26 @@ use tag_index::LONGEST_IMAGE;
 /// Lookups in a repetition.
 const LOOKUPS: usize = 1_000;
 
-const OPERATIONS: [&str; 4] = ["build", "check", "hits", "misses"];
+const OPERATIONS: [&str; 5] = ["build", "check", "hits", "misses", PLACE];
+
+/// The operation that takes groups and no list.
+const PLACE: &str = "place";
 
 /// Prints the names of the cases and of the versions.
 pub fn print_cases() {
     for operation in OPERATIONS {
-        for case in cases_of(operation) {
-            println!("{operation}-{}", case.name);
+        let names: Vec<&str> = match operation {
+            PLACE => cases::placed().iter().map(|groups| groups.name).collect(),
+            _ => cases_of(operation).iter().map(|case| case.name).collect(),
+        };
+        for name in names {
+            println!("{operation}-{name}");
         }
     }
     println!("versions: {}", BOTH.map(|version| version.name).join(" "));
 }
 
-/// The cases that an operation takes.
+/// The cases that an operation on lists takes.
 fn cases_of(operation: &str) -> Vec<Case> {
     let mut cases = cases::built();
     if operation == "build" {
@@ -34,14 +41,11 @@ fn cases_of(operation: &str) -> Vec<Case> {
 }
 
 pub fn run(case: &str, version: &str, repetitions: &str) -> Result<(), String> {
+    let no_case = || format!("there is no case {case}");
     let (operation, name) = case
         .split_once('-')
         .filter(|(operation, _)| OPERATIONS.contains(operation))
-        .ok_or_else(|| format!("there is no case {case}"))?;
-    let case = cases_of(operation)
-        .into_iter()
-        .find(|listed| listed.name == name)
-        .ok_or_else(|| format!("there is no case {case}"))?;
+        .ok_or_else(no_case)?;
     let version = BOTH
         .into_iter()
         .find(|listed| listed.name == version)
@@ -49,8 +53,32 @@ pub fn run(case: &str, version: &str, repetitions: &str) -> Result<(), String> {
     let repetitions = repetitions
         .parse()
         .map_err(|_| format!("{repetitions} is no number of repetitions"))?;
-    repeat(operation, &case, version, repetitions);
+    if operation == PLACE {
+        let mut groups = cases::placed();
+        groups.retain(|listed| listed.name == name);
+        let groups = groups.pop().ok_or_else(no_case)?;
+        repeat_placing(&groups.groups, version, repetitions);
+    } else {
+        let mut cases = cases_of(operation);
+        cases.retain(|listed| listed.name == name);
+        let case = cases.pop().ok_or_else(no_case)?;
+        repeat(operation, &case, version, repetitions);
+    }
     Ok(())
+}
+
+/// Places each of the groups in a repetition.
+fn repeat_placing(groups: &[Vec<u32>], version: Version, repetitions: u32) {
+    let mut word = [0];
+    for _ in 0..repetitions {
+        for tags in groups {
+            black_box((version.place)(
+                black_box(tags),
+                LIMIT,
+                black_box(&mut word),
+            ));
+        }
+    }
 }
 
 fn repeat(operation: &str, case: &Case, version: Version, repetitions: u32) {

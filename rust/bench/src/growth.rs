@@ -1,16 +1,16 @@
 //! How the times grow: with the number of tags at eight a group, and the seeds tried with the size of a group.
 
 use crate::cases::{walked, Case, LIMIT};
-use crate::plain;
 use crate::plot::{Plot, Scale, Series};
 use crate::tables::{build_samples, lookup_samples};
 use crate::timing::{time, Sample, REPETITIONS};
-use model::line::{line, read_two};
-use model::list_text;
+use crate::versions::BOTH;
 use random::Random;
 use std::fs;
 use std::io;
+use std::iter;
 use std::path::Path;
+use tag_index::LARGEST_GROUP;
 
 /// Tags in a group, where the number of tags grows.
 const SHARE: usize = 8;
@@ -94,30 +94,43 @@ fn build() -> Plot {
     }
 }
 
+/// The least seed that serves a group, if one below the limit does, as both versions say.
+fn seed_of(tags: &[u32]) -> Option<u64> {
+    let [proved, plain] = BOTH.map(|version| {
+        let mut word = [0];
+        ((version.place)(tags, LIMIT, &mut word), word)
+    });
+    assert_eq!(proved, plain);
+    let (answer, _) = proved;
+    if answer == 7 << 32 {
+        return None;
+    }
+    assert!(answer < LIMIT.into());
+    Some(answer)
+}
+
 fn seeds() -> Plot {
-    println!("\nGrowth: seeds tried for a group, mean of {GROUPS} random groups");
+    println!("\nGrowth: seeds tried for a group, mean of {GROUPS} random groups, less those that no seed below {LIMIT} serves");
     println!(
-        "  {:>6}{:>12}{:>12}{:>10}",
-        "size n", "mean", "(e/2)^n", "ratio"
+        "  {:>6}{:>12}{:>12}{:>10}{:>10}",
+        "size n", "mean", "(e/2)^n", "ratio", "unserved"
     );
     let mut random = Random::new(4);
     let mut means = Vec::new();
     let mut powers = Vec::new();
-    let mut buffer = [0; 11 * 26];
-    for size in 1..=24 {
-        let mut tried = 0;
-        for _ in 0..GROUPS {
-            let tags = random.tags(size);
-            let seed = plain::least_seed(&tags, LIMIT).expect("some seed serves a random group");
-            let text = list_text(1, LIMIT, &tags);
-            let length = tag_index::build(&text, &mut buffer).expect("it is built");
-            let stated = read_two(line(&buffer[..length], 1)).expect("it is well formed");
-            assert_eq!(stated, (0, seed));
-            tried += u64::from(seed) + 1;
-        }
-        let mean = tried as f64 / GROUPS as f64;
+    for size in 1..=LARGEST_GROUP {
+        let served: Vec<u64> = iter::repeat_with(|| random.tags(size))
+            .take(GROUPS)
+            .filter_map(|tags| seed_of(&tags))
+            .collect();
+        let tried: u64 = served.iter().map(|seed| seed + 1).sum();
+        let mean = tried as f64 / served.len() as f64;
         let power = (std::f64::consts::E / 2.0).powi(size as i32);
-        println!("  {size:>6}{mean:>12.2}{power:>12.2}{:>10.2}", mean / power);
+        println!(
+            "  {size:>6}{mean:>12.2}{power:>12.2}{:>10.2}{:>10}",
+            mean / power,
+            GROUPS - served.len()
+        );
         means.push((size as f64, mean));
         powers.push((size as f64, power));
     }

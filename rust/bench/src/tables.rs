@@ -1,6 +1,7 @@
-//! Building, checking and lookup of each case: every version's time, with its results asserted.
+//! Building, checking and lookup of each case, and placing: every version's time, with its results
+//! asserted.
 
-use crate::cases::{self, Case, LIMIT};
+use crate::cases::{self, Case, Groups, LIMIT};
 use crate::timing::{measure, median, print as print_samples, time, Sample, Timed, REPETITIONS};
 use crate::versions::{Version, BOTH};
 use random::Random;
@@ -23,16 +24,17 @@ pub fn print() {
         "Times of one operation: medians of {REPETITIONS} repetitions, with the versions in turn."
     );
     println!("  proved         the proved library over its C boundary");
-    println!("  plain          plain Rust on the same text, rust/bench/src/plain.rs");
+    println!("  plain          plain Rust on the same text or tags, rust/bench/src/plain.rs");
     println!("  hash map       std HashMap<u32, u32> of the parsed list");
     println!("  sorted slice   pairs of the parsed list, by binary search");
-    println!("Answers and images are asserted equal, byte for byte, to the model's: after every build, and after every pass of checks or lookups, outside the times.");
+    println!("Answers and images are asserted equal, byte for byte, to the model's: after every build, and after every pass of checks, lookups or placings, outside the times.");
     println!("Buffers are filled with '.' before every build, outside the times; L = {LIMIT} in all cases.");
 
     let mut rows = Vec::new();
     let built = cases::built();
     rows.extend(built.iter().map(build));
     rows.extend(cases::unserved().iter().map(build_unserved));
+    rows.extend(cases::placed().iter().map(place));
     rows.extend(built.iter().map(check));
     let mut random = Random::new(3);
     for case in &built {
@@ -175,6 +177,48 @@ fn build_unserved(case: &Case) -> Row {
     };
     assert_eq!(cases::passing(&case.tags), passing, "{}", case.title);
     row(format!("build: {}", case.title), build_samples(case))
+}
+
+/// What stands in a cell before a placing. No group has this word: the lowest tag of a cycle has
+/// choice 0.
+const NO_WORD: [u32; 1] = [u32::MAX];
+
+/// The time of so many passes over the groups.
+fn time_placings(
+    version: Version,
+    groups: &[Vec<u32>],
+    expected: &[(u64, [u32; 1])],
+    iterations: u32,
+) -> Duration {
+    let mut placed = vec![(0, NO_WORD); groups.len()];
+    let mut all = Duration::ZERO;
+    for _ in 0..iterations {
+        placed.fill((0, NO_WORD));
+        let begin = Instant::now();
+        for ((answer, word), tags) in placed.iter_mut().zip(groups) {
+            *answer = (version.place)(black_box(tags), LIMIT, word);
+        }
+        all += begin.elapsed();
+        assert!(placed == expected, "{} places otherwise", version.name);
+    }
+    all
+}
+
+/// Placing each of the groups by itself, asserted against the model: the seed and the word.
+fn place(groups: &Groups) -> Row {
+    let stated = |tags: &Vec<u32>| {
+        let (seed, word) = model::place_group(tags, LIMIT).expect("some seed serves the group");
+        (seed.into(), [word])
+    };
+    let title = format!("place: {}", groups.title);
+    let groups = &groups.groups[..];
+    let expected: Vec<(u64, [u32; 1])> = groups.iter().map(stated).collect();
+    let expected = &expected[..];
+    let versions = BOTH.iter().map(|&version| Timed {
+        name: version.name,
+        run: Box::new(move |iterations| time_placings(version, groups, expected, iterations)),
+    });
+    row(title, measure(groups.len(), versions.collect()))
 }
 
 fn check(case: &Case) -> Row {

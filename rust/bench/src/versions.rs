@@ -1,4 +1,4 @@
-//! The two versions that take the same texts and answer the same numbers.
+//! The two versions that take the same texts and tags and answer the same numbers.
 
 use crate::plain;
 use tag_index::raw;
@@ -9,6 +9,7 @@ pub struct Version {
     pub build: fn(&[u8], &mut [u8]) -> u64,
     pub check: fn(&[u8]) -> u64,
     pub lookup: fn(&[u8], u32) -> u64,
+    pub place: fn(&[u32], u32, &mut [u32; 1]) -> u64,
 }
 
 /// The library that is proved, over its C boundary.
@@ -17,6 +18,7 @@ pub const PROVED: Version = Version {
     build: raw::build,
     check: raw::check,
     lookup: raw::lookup,
+    place: raw::place_group,
 };
 
 pub const PLAIN: Version = Version {
@@ -24,6 +26,7 @@ pub const PLAIN: Version = Version {
     build: plain::build,
     check: plain::check,
     lookup: plain::lookup,
+    place: plain::place_group,
 };
 
 pub const BOTH: [Version; 2] = [PROVED, PLAIN];

@@ -4,7 +4,7 @@ use model::hash::group_of;
 use model::line::{line_of_tag, line_of_two, read_tag, read_two, LINE};
 use random::Random;
 
-use crate::lists::{absent_tags, large, structured, tags_of_group, Case};
+use crate::lists::{absent_tags, full, large, structured, tags_of_group, Case};
 use crate::tally::Tally;
 use crate::Size;
 
@@ -18,6 +18,13 @@ pub fn compare(tally: &mut Tally, random: &mut Random, size: &Size) {
         unwired(tally, case, &image, &tags);
     }
     hand_made(tally);
+    for _ in 0..size.full_images {
+        let case = full(random);
+        if let Ok(image) = model::image_of(&case.tags, case.groups, case.limit) {
+            sampled(tally, random, &case, &image, 12);
+            moved_starts(tally, random, &case, &image);
+        }
+    }
     for _ in 0..size.lists {
         for (_, case) in structured(random) {
             if let Ok(image) = model::image_of(&case.tags, case.groups, case.limit) {
@@ -218,9 +225,9 @@ fn put(tally: &mut Tally, image: &[u8], index: usize, line: &[u8], tags: &[u32])
 fn other_pairs(first: u32, second: u32) -> Vec<(u64, u64)> {
     let around = |value: u32| {
         let ends = [
-            0, 1, 2, 24, 25, 512, 513, 4_096, 4_097, 65_535, 65_536, 99_999,
+            0, 1, 2, 32, 33, 512, 513, 4_096, 4_097, 65_535, 65_536, 99_999,
         ];
-        let near = [value.saturating_sub(1), value + 1, value + 24, value + 25];
+        let near = [value.saturating_sub(1), value + 1, value + 32, value + 33];
         ends.into_iter()
             .chain(near.into_iter().filter(|&near| near <= 99_999))
             .map(u64::from)
@@ -233,7 +240,7 @@ fn other_pairs(first: u32, second: u32) -> Vec<(u64, u64)> {
 }
 
 /// Images that no building writes: header and length that fit each other and nothing else, ends
-/// past N, groups of 24 and 25, a tag twice in one group, next to itself and further apart.
+/// past N, groups of 32 and 33, a tag twice in one group, next to itself and further apart.
 fn hand_made(tally: &mut Tally) {
     tally.kind("images made by hand");
     let tags = [0, 1, 2, 3, 4, 6, 1 << 31, u32::MAX];
@@ -241,13 +248,14 @@ fn hand_made(tally: &mut Tally) {
         (0, 1),
         (0, 2),
         (1, 1),
-        (24, 1),
-        (25, 1),
-        (48, 2),
+        (32, 1),
+        (33, 1),
+        (64, 2),
+        (65, 2),
         (0, 512),
         (4_096, 512),
     ] {
-        for start in [0, 1, 24, 25, 4_096, 99_999] {
+        for start in [0, 1, 31, 32, 33, 4_096, 99_999] {
             // From tag 0 on, 17 comes before 13.
             for first in [0, 1] {
                 let mut image = line_of_two(count, groups);
@@ -263,7 +271,7 @@ fn hand_made(tally: &mut Tally) {
         }
     }
     // Ends that lie past N by one and by many, of the first group and of a later one.
-    for end in [1, 2, 3, 4, 5, 26, 27, 28] {
+    for end in [1, 2, 3, 4, 5, 31, 32, 33, 34, 35] {
         for (first, second) in [(0, end), (end, end), (1, end)] {
             let mut image = line_of_two(3, 3);
             for start in [0, first, second] {
@@ -278,8 +286,34 @@ fn hand_made(tally: &mut Tally) {
     // One group, each tag at one of its places, with repetitions.
     tally.kind("repeated tags made by hand");
     for seed in 0..200 {
-        for size in [2, 3, 5, 24] {
+        for size in [2, 3, 5, 25, 32] {
             repeated(tally, seed, size);
+        }
+    }
+}
+
+/// Each start but the first moved, so that the group before it or its own has 31 to 34 tags: 13 at a
+/// group of 33, from checking and from lookups of its tags.
+fn moved_starts(tally: &mut Tally, random: &mut Random, case: &Case, image: &[u8]) {
+    tally.kind("starts moved to groups of 31 to 34 tags");
+    let start = |group: usize| match read_two(&image[LINE * (1 + group)..][..LINE]) {
+        Some((start, seed)) if group < case.groups as usize => (start, seed),
+        _ => (case.tags.len() as u32, 0),
+    };
+    for group in 1..case.groups as usize {
+        let (before, behind) = (start(group - 1).0, start(group + 1).0);
+        let tags: Vec<u32> = asked(random, case, 5)
+            .into_iter()
+            .chain(case.tags.iter().copied().filter(|&tag| {
+                let own = group_of(tag, case.groups) as usize;
+                (own == group || own + 1 == group) && random.below(4) == 0
+            }))
+            .collect();
+        for size in 31..=34 {
+            for moved in [before + size, behind.saturating_sub(size)] {
+                let line = line_of_two(u64::from(moved), u64::from(start(group).1));
+                put(tally, image, 1 + group, &line, &tags);
+            }
         }
     }
 }

@@ -5,8 +5,10 @@ use std::collections::BTreeSet;
 use model::hash::group_of;
 use model::image::image_length;
 use model::list_text;
+use model::placing::LARGEST_GROUP;
 use random::Random;
 
+use crate::groups::{two_on_place_0, without_place_0, LAST_SEED};
 use crate::tally::Tally;
 use crate::Size;
 
@@ -44,6 +46,9 @@ pub fn compare(tally: &mut Tally, random: &mut Random, size: &Size) {
     counts(tally, random);
     buffers(tally, random);
     without_seed(tally, random, size);
+    for _ in 0..size.all_full {
+        all_full(tally, random);
+    }
     for _ in 0..size.lists {
         for (kind, case) in structured(random) {
             tally.kind(kind);
@@ -54,7 +59,10 @@ pub fn compare(tally: &mut Tally, random: &mut Random, size: &Size) {
         tally.kind("full groups");
         let case = full(random);
         rebuild(tally, random, &case);
-        tally.kind("one group of 25 and more");
+        tally.kind("close-numbered lists");
+        let case = close_numbered(random);
+        rebuild(tally, random, &case);
+        tally.kind("one group of 33 and more");
         overfull(tally, random);
     }
     for _ in 0..size.large_lists {
@@ -129,7 +137,7 @@ pub const WITHOUT_PLACE_2: [u32; 5] = [1 << 29, 2 << 29, 3 << 29, 5 << 29, 7 << 
 
 /// Six tags that no seed serves though every place is touched: the four odd multiples of 2^29 and
 /// four times 2^29 have only the places 0, 2, 3 and 5, four places for five tags.
-const FIVE_ON_FOUR_PLACES: [u32; 6] = [1 << 29, 2 << 29, 3 << 29, 4 << 29, 5 << 29, 7 << 29];
+pub const FIVE_ON_FOUR_PLACES: [u32; 6] = [1 << 29, 2 << 29, 3 << 29, 4 << 29, 5 << 29, 7 << 29];
 
 /// The tags behind tag 0, for which 17 is due.
 pub fn behind_0(tags: &[u32]) -> Vec<u32> {
@@ -137,7 +145,7 @@ pub fn behind_0(tags: &[u32]) -> Vec<u32> {
 }
 
 /// Ascending tags, `count` different values of `draw` that are not 0.
-fn different(count: usize, mut draw: impl FnMut() -> u32) -> Vec<u32> {
+pub fn different(count: usize, mut draw: impl FnMut() -> u32) -> Vec<u32> {
     let mut tags = BTreeSet::new();
     // A source with few values may run dry: then there are fewer tags.
     for _ in 0..20 * count + 20 {
@@ -176,9 +184,11 @@ pub fn structured(random: &mut Random) -> Vec<(&'static str, Case)> {
     });
     add("clustered lists", near);
     let shift = random.within(1, 31);
-    let multiples = different(count.min(24), || (random.tag() >> shift) << shift);
+    let multiples = different(count.min(LARGEST_GROUP), || {
+        (random.tag() >> shift) << shift
+    });
     add("multiples of a power of two", multiples);
-    let mut ends = different(count.min(22), || random.tag());
+    let mut ends = different(count.min(LARGEST_GROUP - 2), || random.tag());
     ends.extend([1, u32::MAX]);
     ends.sort_unstable();
     ends.dedup();
@@ -186,7 +196,8 @@ pub fn structured(random: &mut Random) -> Vec<(&'static str, Case)> {
     let powers = different(count.min(32), || 1 << random.below(32));
     add("powers of two", powers);
     let own = random.below(groups as usize) as u32;
-    let alone = different(random.within(0, 24), || tag_of_group(random, own, groups));
+    let alone = random.within(0, LARGEST_GROUP);
+    let alone = different(alone, || tag_of_group(random, own, groups));
     add("all tags in one group", alone);
     // Any of these with tag 0 in front.
     let any = &cases[random.below(cases.len())].1;
@@ -195,25 +206,33 @@ pub fn structured(random: &mut Random) -> Vec<(&'static str, Case)> {
     cases
 }
 
-/// Every group with 18 to 24 tags, for which the search takes its time.
-fn full(random: &mut Random) -> Case {
+/// Every group with 18 to 32 tags, for which the search takes its time.
+pub fn full(random: &mut Random) -> Case {
     let groups = random.within(1, 8) as u32;
     let mut tags = Vec::new();
     for group in 0..groups {
-        let count = random.within(18, 24);
+        let count = random.within(18, LARGEST_GROUP);
         tags.extend(different(count, || tag_of_group(random, group, groups)));
     }
     tags.sort_unstable();
     Case::new(groups, 65_536, tags)
 }
 
-/// Few tags in most groups, and 25 to 30 in one or two of them: 10 at the lower one.
+/// Consecutive tags, 24 to 31 for each group: they spread over the groups almost evenly.
+fn close_numbered(random: &mut Random) -> Case {
+    let groups = random.within(1, 8) as u32;
+    let count = groups * random.within(24, 31) as u32;
+    let first = random.tag().min(u32::MAX - count);
+    Case::new(groups, 65_536, (first..first + count).collect::<Vec<_>>())
+}
+
+/// Few tags in most groups, and 33 to 40 in one or two of them: 10 at the lower one.
 fn overfull(tally: &mut Tally, random: &mut Random) {
     let groups = random.within(2, 512) as u32;
     let mut tags = different(groups as usize, || random.tag());
     for _ in 0..random.within(1, 2) {
         let group = random.below(groups as usize) as u32;
-        let count = random.within(25, 30);
+        let count = random.within(LARGEST_GROUP + 1, 40);
         tags.extend(different(count, || tag_of_group(random, group, groups)));
     }
     tags.sort_unstable();
@@ -261,28 +280,30 @@ pub fn tags_of_group(group: u32, groups: u32, count: usize) -> Vec<u32> {
         .collect()
 }
 
-/// The worked values of document 01 that are lists, and the traps.
+/// The worked values of document 01 that are lists, and the traps, each with its limit.
+pub const WORKED: &[(u32, &[u32])] = &[
+    (1, &[1, 2]),
+    (1, &[1, 3]),
+    (2, &[1, 3]),
+    (1, &[0, 2_147_483_648]),
+    (1, &[0, 1_073_741_824]),
+    (1, &[0, 1_073_741_824, 3_221_225_472]),
+    (65_536, &[0, 1_073_741_824, 3_221_225_472]),
+    (1, &[13, 2_147_483_648]),
+    (1, &[13, 1_073_741_824]),
+    (1, &[]),
+    (1, &[5, 5]),
+    (9, &[13, 57, 61]),
+    (9, &[14, 337_764_173, 964_266_638, 2_787_973_142]),
+    (1, &[599, 1_193]),
+    (1, &[24, 1_445_023_297]),
+    (99, &[6, 8, 33, 37, 39, 55]),
+    (1, &[61, 152]),
+];
+
 fn worked(tally: &mut Tally) {
     tally.kind("worked values and traps");
-    for (limit, tags) in [
-        (1, vec![1, 2]),
-        (1, vec![1, 3]),
-        (2, vec![1, 3]),
-        (1, vec![0, 2_147_483_648]),
-        (1, vec![0, 1_073_741_824]),
-        (1, vec![0, 1_073_741_824, 3_221_225_472]),
-        (65_536, vec![0, 1_073_741_824, 3_221_225_472]),
-        (1, vec![13, 2_147_483_648]),
-        (1, vec![13, 1_073_741_824]),
-        (1, vec![]),
-        (1, vec![5, 5]),
-        (9, vec![13, 57, 61]),
-        (9, vec![14, 337_764_173, 964_266_638, 2_787_973_142]),
-        (1, vec![599, 1_193]),
-        (1, vec![24, 1_445_023_297]),
-        (99, vec![6, 8, 33, 37, 39, 55]),
-        (1, vec![61, 152]),
-    ] {
+    for &(limit, tags) in WORKED {
         let case = Case::new(1, limit, tags);
         tally.build(&case.text(), case.length());
     }
@@ -309,7 +330,7 @@ fn ranges(tally: &mut Tally) {
 fn order_of_refusals(tally: &mut Tally) {
     tally.kind("several conditions at once");
     let many: Vec<u32> = (1..=4_097).collect();
-    let full = tags_of_group(0, 1, 25);
+    let full = tags_of_group(0, 1, LARGEST_GROUP + 1);
     let lists: [&[u32]; 6] = [&many, &full, &WITHOUT_PLACE_2, &[5, 5], &[1, 2], &[]];
     // Each of them as it is, and with tag 0 in front: 17 beside 5, 10, 7, 6 and alone, and in the
     // shorter buffers beside 9.
@@ -328,7 +349,7 @@ fn order_of_refusals(tally: &mut Tally) {
         }
     }
     // 10 at a higher group than one without a seed, and the other way round.
-    let mut both = tags_of_group(1, 2, 25);
+    let mut both = tags_of_group(1, 2, LARGEST_GROUP + 1);
     both.extend([0, 1_073_741_824, 3_221_225_472].map(|tag| tag + 2));
     both.sort_unstable();
     both.dedup();
@@ -341,7 +362,7 @@ fn order_of_refusals(tally: &mut Tally) {
 /// 6 at every index, by an equal tag and by a lower one.
 fn ascending(tally: &mut Tally, random: &mut Random) {
     tally.kind("not ascending");
-    for count in [2, 3, 24, 100] {
+    for count in [2, 3, 32, 100] {
         let tags = different(count, || random.tag());
         for index in 1..tags.len() {
             for lower in [tags[index - 1], tags[0], 0] {
@@ -359,20 +380,20 @@ fn ascending(tally: &mut Tally, random: &mut Random) {
     }
 }
 
-/// No tags, one, 24 and 25 in a group, 4,096 and 4,097 in the list.
+/// No tags, one, 32 and 33 in a group, 4,096 and 4,097 in the list.
 fn counts(tally: &mut Tally, random: &mut Random) {
     tally.kind("boundary counts");
     for groups in [1, 2, 7, 512] {
         for group in [0, groups / 2, groups - 1] {
-            for count in [0, 1, 2, 23, 24, 25, 26] {
+            for count in [0, 1, 2, 24, 25, 31, 32, 33, 34] {
                 let case = Case::new(groups, 65_536, tags_of_group(group, groups, count));
                 rebuild(tally, random, &case);
             }
         }
     }
-    // Two groups of 25: the lower one is named.
-    let mut two = tags_of_group(3, 8, 25);
-    two.extend(tags_of_group(5, 8, 25));
+    // Two groups of 33: the lower one is named.
+    let mut two = tags_of_group(3, 8, 33);
+    two.extend(tags_of_group(5, 8, 33));
     two.sort_unstable();
     let case = Case::new(8, 65_536, two);
     tally.build(&case.text(), case.length());
@@ -406,6 +427,33 @@ fn counts(tally: &mut Tally, random: &mut Random) {
         let tags: Vec<u32> = (0..count).map(|step| first + step).collect();
         let case = Case::new(512, 65_536, tags);
         rebuild(tally, random, &case);
+    }
+}
+
+/// 4,096 tags in 128 groups of just 32 each; and with one tag moved to another group, which then has
+/// 33: 10 at that group.
+fn all_full(tally: &mut Tally, random: &mut Random) {
+    tally.kind("128 groups of 32 tags");
+    let mut tags = Vec::new();
+    for group in 0..128 {
+        tags.extend(different(LARGEST_GROUP, || {
+            tag_of_group(random, group, 128)
+        }));
+    }
+    tags.sort_unstable();
+    let case = Case::new(128, 65_536, tags);
+    rebuild(tally, random, &case);
+    for group in [0, 1, 127] {
+        let mut moved = case.clone();
+        let lost = (group + 64) % 128;
+        let index = moved
+            .tags
+            .iter()
+            .position(|&tag| group_of(tag, 128) == lost);
+        moved.tags.remove(index.expect("every group has tags"));
+        moved.tags.push(tag_of_group(random, group, 128));
+        moved.tags.sort_unstable();
+        tally.build(&moved.text(), moved.length());
     }
 }
 
@@ -454,16 +502,21 @@ fn without_seed(tally: &mut Tally, random: &mut Random, size: &Size) {
     for limit in [1, 2, 999] {
         for shift in 26..31 {
             let multiples = (1u32 << (32 - shift)) - 1;
-            for count in [multiples.min(24), multiples.min(23) - 1] {
+            for count in [multiples.min(32), multiples.min(31) - 1] {
                 let tags: Vec<u32> = (1..=count).map(|k| k << shift).collect();
                 let case = Case::new(1, limit, tags);
                 tally.build(&case.text(), case.length());
             }
         }
-        for tags in [&WITHOUT_PLACE_2[..], &FIVE_ON_FOUR_PLACES] {
+        for tags in [&WITHOUT_PLACE_2[..], &FIVE_ON_FOUR_PLACES, &LAST_SEED] {
             let case = Case::new(1, limit, tags);
             tally.build(&case.text(), case.length());
         }
+    }
+    // All 65,536 seeds: the last one serves, or none does.
+    for tags in [&LAST_SEED[..], &without_place_0(), &two_on_place_0()] {
+        let case = Case::new(1, 65_536, tags);
+        rebuild(tally, random, &case);
     }
     // Groups of one to four tags under few seeds: some of them stay without one.
     for _ in 0..20 * size.lists {

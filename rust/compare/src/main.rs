@@ -6,11 +6,12 @@
 //!     compare --small          few cases, in memory of just the right size: for a memory checker
 //!     compare --stored         the stored outputs of the program crates, printed again from the model
 //!     compare --print PROGRAM  what the model writes for the cases of a program crate
-//!     compare --soak SECONDS   rebuilding and looking up in one process, whose memory must not grow
+//!     compare --soak SECONDS   all calls again and again in one process, whose memory must not grow
 //!
 //! `--seed NUMBER` takes other random cases, `--printer PATH` another printer than the repository's
 //! `target/bin/printer`, `--no-printer` none. The first difference ends the run with status 1.
 
+mod groups;
 mod images;
 mod lists;
 mod printing;
@@ -34,53 +35,76 @@ pub struct Size {
     /// Rounds of one list of each kind, for building and for damage.
     lists: usize,
     full_lists: usize,
+    /// Lists of 128 groups that have 32 tags each.
+    all_full: usize,
     large_lists: usize,
     /// Images of which each byte is changed, and by which steps: 1 is all other values.
     small_images: usize,
     byte_step: usize,
+    /// Images with groups of 18 to 32 tags.
+    full_images: usize,
     large_images: usize,
     /// Faults in each large image.
     large_samples: usize,
     /// Rounds of lists for the printer.
     printed: usize,
-    /// Fewer answers than this are a fault of the run.
+    /// Rounds of all shapes of groups, and of random groups, of each size.
+    shapes: usize,
+    groups: usize,
+    /// Fewer answers than this are a fault of the run, and fewer groups of 25 to 32 tags.
     least: u64,
+    least_large: usize,
 }
 
 const SMALL: Size = Size {
     lists: 1,
     full_lists: 1,
+    all_full: 0,
     large_lists: 1,
     small_images: 2,
     byte_step: 51,
+    full_images: 2,
     large_images: 1,
     large_samples: 3,
     printed: 0,
+    shapes: 1,
+    groups: 1,
     least: 1_000,
+    least_large: 100,
 };
 
 const USUAL: Size = Size {
     lists: 500,
     full_lists: 100,
+    all_full: 1,
     large_lists: 150,
     small_images: 99,
     byte_step: 1,
+    full_images: 60,
     large_images: 12,
     large_samples: 100,
     printed: 12,
+    shapes: 4,
+    groups: 40,
     least: 1_000_000,
+    least_large: 1_000,
 };
 
 const LONG: Size = Size {
     lists: 6_000,
     full_lists: 1_000,
+    all_full: 8,
     large_lists: 1_500,
     small_images: 99,
     byte_step: 1,
+    full_images: 400,
     large_images: 80,
     large_samples: 400,
     printed: 100,
+    shapes: 40,
+    groups: 400,
     least: 10_000_000,
+    least_large: 10_000,
 };
 
 enum Task {
@@ -178,13 +202,15 @@ fn compare(options: &Options) -> bool {
     let mut tally = Tally::new(options.exact);
     let mut random = Random::new(options.seed);
     let size = &options.size;
+    groups::chosen(&mut tally, &mut random);
     lists::compare(&mut tally, &mut random, size);
     texts::compare(&mut tally, &mut random, size);
     images::compare(&mut tally, &mut random, size);
+    groups::compare(&mut tally, &mut random, size);
     if let Some(printer) = &options.printer {
         printing::compare(&mut tally, &mut random, size, printer);
     }
-    let complete = tally.report();
+    let complete = tally.report(size.least_large);
     let compared = tally.compared();
     println!(
         "compare: {compared} answers, no difference; seed {}, {:.1} s",

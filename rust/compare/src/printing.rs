@@ -8,6 +8,7 @@ use std::thread;
 
 use random::Random;
 
+use crate::groups::LAST_SEED;
 use crate::lists::{behind_0, large, structured, tags_of_group, Case, WITHOUT_PLACE_2};
 use crate::tally::{differs, shown, Tally};
 use crate::texts::damaged;
@@ -59,9 +60,12 @@ fn texts(random: &mut Random, size: &Size) -> Vec<(&'static str, Vec<u8>)> {
         Case::new(1, 1, [5, 5]),
         Case::new(1, 1, [1, 3]),
         Case::new(1, 65_536, WITHOUT_PLACE_2),
-        Case::new(4, 65_536, tags_of_group(2, 4, 24)),
         Case::new(4, 65_536, tags_of_group(2, 4, 25)),
-        Case::new(1, 65_536, tags_of_group(0, 1, 25)),
+        Case::new(4, 65_536, tags_of_group(2, 4, 32)),
+        Case::new(4, 65_536, tags_of_group(2, 4, 33)),
+        Case::new(1, 65_536, tags_of_group(0, 1, 33)),
+        Case::new(1, 65_536, LAST_SEED),
+        Case::new(1, 65_535, LAST_SEED),
     ] {
         texts.push(("boundary lists", case.text()));
     }
@@ -72,8 +76,8 @@ fn texts(random: &mut Random, size: &Size) -> Vec<(&'static str, Vec<u8>)> {
         Case::new(1, 1, [0, 0]),
         Case::new(1, 1, [0, 5, 5]),
         Case::new(1, 1, [7, 0]),
-        Case::new(1, 9, behind_0(&tags_of_group(0, 1, 24))),
-        Case::new(2, 9, behind_0(&tags_of_group(1, 2, 25))),
+        Case::new(1, 9, behind_0(&tags_of_group(0, 1, 32))),
+        Case::new(2, 9, behind_0(&tags_of_group(1, 2, 33))),
         Case::new(1, 65_536, [0, 1_073_741_824, 3_221_225_472]),
         Case::new(1, 9, behind_0(&WITHOUT_PLACE_2)),
         Case::new(0, 9, [0]),

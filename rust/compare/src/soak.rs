@@ -1,5 +1,5 @@
-//! One process that rebuilds and looks up for a given time: every answer must be the model's, and
-//! the process must not grow.
+//! One process that places groups, rebuilds and looks up for a given time: every answer must be the
+//! model's, and the process must not grow.
 
 use std::fs;
 use std::time::{Duration, Instant};
@@ -7,6 +7,7 @@ use std::time::{Duration, Instant};
 use random::Random;
 use tag_index::raw;
 
+use crate::groups::{group, LAST_SEED, LOLLIPOP, PATH};
 use crate::lists::{large, structured};
 use crate::tally::differs;
 
@@ -37,25 +38,38 @@ struct Damage {
     found: (u32, u64),
 }
 
+/// One group, and what the model says of it.
+struct Group {
+    tags: Vec<u32>,
+    limit: u32,
+    placed: u64,
+    /// What the cell holds before, and afterwards.
+    cell: u32,
+    word: u32,
+}
+
 pub fn run(seed: u64, time: Duration) -> bool {
-    let expected = expected(&mut Random::new(seed));
+    let mut random = Random::new(seed);
+    let expected = expected(&mut random);
+    let groups = groups(&mut random);
     let mut buffer = vec![0; expected.iter().map(|one| one.room).max().unwrap_or(0)];
     let mut answers = 0;
     // From here on this side takes no memory: what grows is the library's.
     for _ in 0..WARM_UP {
-        answers += round(&expected, &mut buffer);
+        answers += round(&expected, &mut buffer) + place(&groups);
     }
     let before = resident_kib();
     let begun = Instant::now();
     let mut rounds = 0;
     while begun.elapsed() < time || rounds == 0 {
-        answers += round(&expected, &mut buffer);
+        answers += round(&expected, &mut buffer) + place(&groups);
         rounds += 1;
     }
     let after = resident_kib();
     println!(
-        "soak: {rounds} rounds over {} lists in {} s, {answers} answers, no difference",
+        "soak: {rounds} rounds over {} lists and {} groups in {} s, {answers} answers, no difference",
         expected.len(),
+        groups.len(),
         begun.elapsed().as_secs()
     );
     println!("soak: VmRSS {before} KiB after warm-up, {after} KiB at the end; {ALLOWED_KIB} KiB more are allowed");
@@ -146,6 +160,46 @@ fn round(expected: &[Expected], buffer: &mut [u8]) -> u64 {
         }
     }
     answers
+}
+
+/// Groups of every size, under a limit that most of them need not reach, and chosen ones.
+fn groups(random: &mut Random) -> Vec<Group> {
+    let mut cases = vec![(LAST_SEED.to_vec(), 65_536), (LAST_SEED.to_vec(), 9)];
+    cases.extend([PATH, LOLLIPOP].map(|tags| (tags.to_vec(), 1)));
+    cases.push((PATH.to_vec(), 0));
+    for n in 0..=33 {
+        cases.extend(group(random, n).into_iter().map(|(_, tags)| (tags, 999)));
+    }
+    cases
+        .into_iter()
+        .map(|(tags, limit)| {
+            let cell = random.next_u64() as u32;
+            let mut word = [cell];
+            let placed = model::answer_place(&tags, limit, &mut word);
+            Group {
+                tags,
+                limit,
+                placed,
+                cell,
+                word: word[0],
+            }
+        })
+        .collect()
+}
+
+/// Places every group once; the number of answers.
+fn place(groups: &[Group]) -> u64 {
+    for (index, group) in groups.iter().enumerate() {
+        let mut cell = [group.cell];
+        let answer = raw::place_group(&group.tags, group.limit, &mut cell);
+        if (answer, cell) != (group.placed, [group.word]) {
+            differs(&format!(
+                "soak, placing of group {index}: {answer} and {cell:?} instead of {} and {}",
+                group.placed, group.word
+            ));
+        }
+    }
+    groups.len() as u64
 }
 
 /// The memory of this process that is in use now.

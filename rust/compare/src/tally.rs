@@ -3,14 +3,16 @@
 use std::collections::{BTreeMap, BTreeSet};
 use std::process;
 
+use model::placing::LARGEST_GROUP;
 use tag_index::{raw, Index, Reason, UNKNOWN};
 
 /// Bytes behind the buffer that building is lent, which must stay as they are.
 const GUARD: usize = 32;
 
-/// The three calls over the C boundary, and the printer's run.
+/// The four calls over the C boundary, and the printer's run.
 #[derive(Clone, Copy, PartialEq, Eq, PartialOrd, Ord)]
 pub enum Operation {
+    Placing,
     Building,
     Checking,
     Lookup,
@@ -18,7 +20,8 @@ pub enum Operation {
 }
 
 impl Operation {
-    pub const ALL: [Operation; 4] = [
+    pub const ALL: [Operation; 5] = [
+        Operation::Placing,
         Operation::Building,
         Operation::Checking,
         Operation::Lookup,
@@ -27,6 +30,7 @@ impl Operation {
 
     fn name(self) -> &'static str {
         match self {
+            Operation::Placing => "placing",
             Operation::Building => "building",
             Operation::Checking => "checking",
             Operation::Lookup => "lookup",
@@ -37,6 +41,7 @@ impl Operation {
     /// The refusals that must have come, and no others can.
     fn refusals(self) -> &'static [usize] {
         match self {
+            Operation::Placing => &[4, 5, 6, 7, 17],
             Operation::Building => &[4, 5, 6, 7, 8, 9, 10, 16, 17],
             Operation::Checking => &[11, 12, 13, 14, 15, 17],
             Operation::Lookup => &[11, 12, 13],
@@ -46,16 +51,18 @@ impl Operation {
     }
 
     /// Whether the refusal names a place. 17 names a slot in checking; otherwise it is the first tag
-    /// that is 0.
+    /// that is 0. Placing has one group, so its 7 names none.
     fn names_place(self, number: usize) -> bool {
         let reason = Reason::from_number(number as u32);
         reason.and_then(Reason::place_kind).is_some()
             && (number != 17 || self == Operation::Checking)
+            && (number != 7 || self != Operation::Placing)
     }
 
     /// What an answer is called that is neither unknown nor a refusal.
     fn success(self) -> &'static str {
         match self {
+            Operation::Placing => "seed",
             Operation::Building => "length",
             Operation::Checking => "accepted",
             Operation::Lookup => "number",
@@ -80,6 +87,69 @@ impl Answers {
     }
 }
 
+/// The groups that placing answered with a seed.
+#[derive(Default)]
+struct Placed {
+    sizes: BTreeSet<usize>,
+    /// The groups of 25 to 32 tags, each once, and of these the ones of 32.
+    large: BTreeSet<Vec<u32>>,
+    full: u64,
+    /// Words of groups of 32 tags: those with bit 31, and those with ones and zeros in every byte.
+    highest_bit: u64,
+    mixed: u64,
+    /// The bits that were 1 in one of these words, and those that were 0.
+    ones: u32,
+    zeros: u32,
+    greatest_seed: u64,
+    /// Answers for a group made for a seed that are that seed.
+    as_made: u64,
+}
+
+impl Placed {
+    fn add(&mut self, tags: &[u32], seed: u64, word: u32) {
+        self.sizes.insert(tags.len());
+        self.greatest_seed = self.greatest_seed.max(seed);
+        if tags.len() <= 24 || !self.large.insert(tags.to_vec()) {
+            return;
+        }
+        if tags.len() == LARGEST_GROUP {
+            let bytes = word.to_le_bytes();
+            self.full += 1;
+            self.highest_bit += u64::from(word >> 31);
+            self.mixed += u64::from(bytes.iter().all(|&byte| byte != 0 && byte != 255));
+            self.ones |= word;
+            self.zeros |= !word;
+        }
+    }
+
+    /// Prints the counts, and says whether there were enough: of every size, of more than 24 tags, of
+    /// every bit of the word; and whether the last seed came.
+    fn report(&self, least_large: usize) -> bool {
+        let Placed {
+            full,
+            highest_bit,
+            mixed,
+            greatest_seed,
+            as_made,
+            ..
+        } = self;
+        let large = self.large.len();
+        println!("            of placing: {large} groups of 25 to 32 tags have a seed, {full} of them 32 tags; the greatest seed is {greatest_seed}");
+        println!("            of the words of 32 tags: {highest_bit} with bit 31, {mixed} with ones and zeros in every byte");
+        println!("            of the groups made for a seed: {as_made} answers with it");
+        if large < least_large {
+            println!("compare: fewer than {least_large} groups of 25 to 32 tags");
+        }
+        large >= least_large
+            && self.sizes.len() == LARGEST_GROUP + 1
+            && *highest_bit > 0
+            && *mixed > 0
+            && (self.ones, self.zeros) == (u32::MAX, u32::MAX)
+            && *greatest_seed == 65_535
+            && *as_made > 0
+    }
+}
+
 /// The binding's `Index`: images taken, images refused, lookups that answered a number or unknown.
 /// They go through the same C functions, so they do not count as answers of these.
 #[derive(Default)]
@@ -100,7 +170,8 @@ struct Unwired {
 pub struct Tally {
     kind: &'static str,
     kinds: BTreeMap<(Operation, &'static str), u64>,
-    answers: [Answers; 4],
+    answers: [Answers; 5],
+    placed: Placed,
     unwired: Unwired,
     indexes: Indexes,
     /// Lends each call memory of just the right size, so that a memory checker sees a byte too far.
@@ -113,6 +184,7 @@ impl Tally {
             kind: "",
             kinds: BTreeMap::new(),
             answers: Default::default(),
+            placed: Placed::default(),
             unwired: Unwired::default(),
             indexes: Indexes::default(),
             exact,
@@ -126,6 +198,42 @@ impl Tally {
 
     pub fn compared(&self) -> u64 {
         self.answers.iter().map(Answers::all).sum()
+    }
+
+    /// Places a group, lending a cell that holds `cell`, and answers what both sides answered and what
+    /// they left in the cell.
+    pub fn place(&mut self, tags: &[u32], limit: u32, cell: u32) -> (u64, u32) {
+        let mut theirs = [cell];
+        let expected = model::answer_place(tags, limit, &mut theirs);
+        // The cells before and behind the one lent must stay.
+        let mut ours = [[!cell], [cell], [!cell]];
+        let answer = if self.exact {
+            let mut lent = Box::new([cell]);
+            let answer = raw::place_group(&Box::<[u32]>::from(tags), limit, &mut lent);
+            ours[1] = *lent;
+            answer
+        } else {
+            raw::place_group(tags, limit, &mut ours[1])
+        };
+        if answer != expected || ours != [[!cell], theirs, [!cell]] {
+            let (kind, answer, expected) = (self.kind, said(answer), said(expected));
+            let before = [[!cell], [cell], [!cell]];
+            differs(&format!(
+                "placing ({kind}): the library answers {answer}, the model {expected}\n\
+                 the cell and its neighbours were {before:?} and are {ours:?}, the model leaves \
+                 {theirs:?} in it\ntags {tags:?}, L = {limit}"
+            ));
+        }
+        self.count(Operation::Placing, answer);
+        if answer >> 32 == 0 {
+            self.placed.add(tags, answer, theirs[0]);
+        }
+        (answer, theirs[0])
+    }
+
+    /// Counts a group that was made for a seed, if placing answered that seed.
+    pub fn made_for(&mut self, answer: u64, seed: u32) {
+        self.placed.as_made += u64::from(answer == u64::from(seed));
     }
 
     /// Builds from a text into a buffer of `room` bytes, and answers what both sides answered.
@@ -271,8 +379,9 @@ impl Tally {
     }
 
     /// Prints the counts, and says whether everything that must have come has come: every answer,
-    /// every refusal that names a place at more than one, and the others at place 0 only.
-    pub fn report(&self) -> bool {
+    /// every refusal that names a place at more than one, and the others at place 0 only; and so many
+    /// groups of 25 to 32 tags.
+    pub fn report(&self, least_large: usize) -> bool {
         println!("cases of each kind");
         for ((operation, kind), count) in &self.kinds {
             println!("{count:>10}  {}, {kind}", operation.name());
@@ -303,6 +412,7 @@ impl Tally {
                 }
             }
         }
+        complete &= self.placed.report(least_large);
         let Unwired {
             unknown,
             unknown_at_fault,
@@ -322,7 +432,7 @@ impl Tally {
              the C boundary; --stored has them"
         );
         if !complete {
-            println!("compare: some answer never came, or a refusal at one place only or at one that it does not name");
+            println!("compare: some answer, group size, bit or seed never came, or a refusal at one place only or at one that it does not name");
         }
         complete
     }

@@ -1,11 +1,13 @@
-//! The answers of the three calls over the C boundary.
+//! The answers of the four calls over the C boundary.
 //!
 //! "Each call answers one 64-bit number: the length, the tag's number or 0 for an accepted check;
-//! 4,294,967,295 for unknown; and for a refusal its number × 2^32 plus its place."
+//! 4,294,967,295 for unknown; and for a refusal its number × 2^32 plus its place." Placing a group
+//! answers its seed, and leaves the choice word in a cell that it is lent.
 
 use crate::building::build;
 use crate::checking::check;
 use crate::lookup::{lookup, Found};
+use crate::placing::place_group;
 use crate::printer::read_bounded_list;
 use crate::refusal::Refusal;
 
@@ -36,6 +38,18 @@ pub fn answer_lookup(image: &[u8], tag: u32) -> u64 {
     match lookup(image, tag) {
         Ok(Found::Number(number)) => u64::from(number),
         Ok(Found::Unknown) => UNKNOWN,
+        Err(refusal) => answer_of_refusal(refusal),
+    }
+}
+
+/// The seed, at most 65,535, and the choice word in the cell. "A refusal writes nothing": the cell
+/// stays as it was.
+pub fn answer_place(tags: &[u32], limit: u32, word: &mut [u32; 1]) -> u64 {
+    match place_group(tags, limit) {
+        Ok((seed, choices)) => {
+            word[0] = choices;
+            u64::from(seed)
+        }
         Err(refusal) => answer_of_refusal(refusal),
     }
 }

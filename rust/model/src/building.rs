@@ -50,7 +50,7 @@ fn examine_list(tags: &[u32], groups: u32, limit: u32) -> Result<(), Refusal> {
     Ok(())
 }
 
-/// "10: a group has more than 24 tags, at the lowest such group. 7: at the lowest group without a
+/// "10: a group has more than [32] tags, at the lowest such group. 7: at the lowest group without a
 /// seed." Otherwise the image's lines.
 fn lay_out(tags: &[u32], groups: u32, limit: u32) -> Result<Vec<u8>, Refusal> {
     // Each group's tags, ascending as in the list.

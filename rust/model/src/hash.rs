@@ -2,6 +2,7 @@
 //!
 //! All arithmetic is exact in 64 bits; a remainder by 2^32 stands exactly where the paper has one.
 
+use crate::placing::LARGEST_GROUP;
 use crate::refusal::{refuse, Refusal};
 
 /// "Let G = 2,654,435,761 (hexadecimal 9E3779B1)"
@@ -32,10 +33,10 @@ pub fn place_of(n: u32, seed: u32, choice: u32, tag: u32) -> u32 {
     (product * u64::from(n) / TWO_TO_32) as u32
 }
 
-/// "**Place of one tag.** Refusal 1: n is not 1 to 24. 2: seed above 65,535. 3: choice above 1.
+/// "**Place of one tag.** Refusal 1: n is not 1 to [32]. 2: seed above 65,535. 3: choice above 1.
 /// Otherwise the place."
 pub fn place_of_one_tag(n: u32, seed: u32, choice: u32, tag: u32) -> Result<u32, Refusal> {
-    if !(1..=24).contains(&n) {
+    if !(1..=LARGEST_GROUP as u32).contains(&n) {
         return refuse(1);
     }
     if seed > 65_535 {

@@ -82,7 +82,7 @@ fn read_line_0(line: &[u8]) -> Option<(usize, usize)> {
 }
 
 /// "group 0 does not start at 0, or the next start (N after the last group) is lower than its
-/// own, or is more than 24 above."
+/// own, or is more than [32] above."
 pub fn group_is_faulty(group: usize, start: usize, next_start: usize) -> bool {
     (group == 0 && start != 0) || next_start < start || next_start - start > LARGEST_GROUP
 }

@@ -3,8 +3,8 @@
 use crate::hash::place_of;
 use crate::refusal::{refuse, refuse_at, Refusal};
 
-/// "A group holds 0 to 24 tags."
-pub const LARGEST_GROUP: usize = 24;
+/// "A group may now hold 32 tags" (document 02, §2).
+pub const LARGEST_GROUP: usize = 32;
 
 /// "L is the seed limit, 1 to 65,536"
 pub const LARGEST_LIMIT: u32 = 65_536;
@@ -12,7 +12,7 @@ pub const LARGEST_LIMIT: u32 = 65_536;
 /// "Plant numbering now reserves tag 0 for an unwired point" (document 02, §1).
 pub const UNWIRED: u32 = 0;
 
-/// "**Placing a group.** 4: L not 1 to 65,536. 5: more than 24 tags. 6: not strictly ascending
+/// "**Placing a group.** 4: L not 1 to 65,536. 5: more than [32] tags. 6: not strictly ascending
 /// [..] 7: no seed below L has a filling sequence. Otherwise seed and choice word." Between 6 and 7:
 /// "17 if the first tag is 0, directly after 6 in placing and building" (document 02, §1).
 ///
@@ -61,7 +61,7 @@ fn both_places(n: usize, seed: u32, tag: u32) -> [usize; 2] {
     [0, 1].map(|choice| place_of(n as u32, seed, choice, tag) as usize)
 }
 
-/// Whether some choice sequence fills a group of at most 24 tags under the seed.
+/// Whether some choice sequence fills a group of at most 32 tags under the seed.
 ///
 /// Places are points and each tag is an edge between its two places. A filling sequence exists if
 /// and only if no connected part has more tags than places: then each part is a tree or has one
@@ -131,7 +131,8 @@ impl Parts {
 /// The choice word of the least filling sequence, or nothing if none fills the group.
 ///
 /// "Among filling sequences the least is taken, compared from the lowest tag on, 0 before 1. The
-/// choice word has bit i equal to the choice of the tag with index i; all higher bits are 0."
+/// choice word has bit i equal to the choice of the tag with index i; all higher bits are 0." In a
+/// group of 32 tags "the choice word uses all 32 bits" (document 02, §2).
 ///
 /// Each choice is fixed in turn: 0 if the tags that follow can still be matched to free places,
 /// otherwise 1.

@@ -7,7 +7,10 @@
 use std::ops::RangeInclusive;
 
 use crate::refusal::{Reason, Refusal};
-use crate::{LARGEST_GROUP_COUNT, LARGEST_LIST, LONGEST_IMAGE, LONGEST_TEXT};
+use crate::{
+    Placement, LARGEST_GROUP, LARGEST_GROUP_COUNT, LARGEST_LIMIT, LARGEST_LIST, LONGEST_IMAGE,
+    LONGEST_TEXT,
+};
 
 /// The answer that stands for unknown.
 pub const UNKNOWN: u64 = 4_294_967_295;
@@ -45,6 +48,13 @@ const LOOKUP: [Allowed; 3] = [
     (Reason::WrongLength, NO_PLACE),
     (Reason::MalformedLine, LINES_OF_IMAGE),
     (Reason::FaultyGroup, GROUPS),
+];
+const PLACING: [Allowed; 5] = [
+    (Reason::LimitOutOfRange, NO_PLACE),
+    (Reason::TooManyTags, NO_PLACE),
+    (Reason::NotAscending, 1..=LARGEST_GROUP as u32 - 1),
+    (Reason::UnwiredTag, NO_PLACE),
+    (Reason::NoSeed, NO_PLACE),
 ];
 
 /// Building's answer for a buffer of `room` bytes: the image's length, or the refusal.
@@ -95,6 +105,30 @@ pub(crate) fn found(answer: u64, count: usize) -> Option<u32> {
     }
 }
 
+/// Placing's answer for `count` tags and this seed limit, and the cell that it was lent: the seed with
+/// the choice word, or the refusal.
+pub(crate) fn placed(
+    answer: u64,
+    word: u32,
+    count: usize,
+    limit: u32,
+) -> Result<Placement, Refusal> {
+    if let Some(refusal) = refusal(answer, &PLACING) {
+        return Err(refusal);
+    }
+    if count > LARGEST_GROUP || answer >= limit.min(LARGEST_LIMIT).into() {
+        not_allowed("placing", answer);
+    }
+    // A word of 32 choices has no bit beyond them; as 64 bits it can be shifted by 32.
+    if u64::from(word) >> count != 0 {
+        not_allowed(&format!("placing, with word {word},"), answer);
+    }
+    Ok(Placement {
+        seed: answer as u32,
+        word,
+    })
+}
+
 /// The refusal that an answer stands for, if it is one of those allowed at a place that it can name.
 /// An answer without such a refusal goes back to the caller, which has bounds of its own.
 fn refusal(answer: u64, allowed: &[Allowed]) -> Option<Refusal> {
@@ -139,9 +173,25 @@ mod tests {
     }
 
     #[test]
+    fn seeds_and_words_at_their_bounds_are_taken() {
+        for (seed, word, count, limit) in [
+            (0, 0, 0, 1),
+            (0, 1, 1, 1),
+            (8, 2, 2, 9),
+            (0, u32::MAX >> 1, 31, 1),
+            (65_535, u32::MAX, 32, 65_536),
+        ] {
+            let placement = Placement { seed, word };
+            assert_eq!(placed(seed.into(), word, count, limit), Ok(placement));
+        }
+    }
+
+    #[test]
     fn every_refusal_of_every_operation_is_taken_at_its_places_and_no_other() {
         for &reason in Reason::ALL {
-            for place in [0, 1, 511, 512, 4_095, 4_096, 4_608, 4_609, 5_956, 5_957] {
+            for place in [
+                0, 1, 31, 32, 511, 512, 4_095, 4_096, 4_608, 4_609, 5_956, 5_957,
+            ] {
                 let answer = refused(reason.number().into(), place.into());
                 let refusal = Refusal { reason, place };
                 let has = |allowed: &[Allowed]| {
@@ -151,6 +201,7 @@ mod tests {
                 assert_eq!(has(&BUILDING), built_is(answer, refusal));
                 assert_eq!(has(&CHECKING), checked_is(answer, refusal));
                 assert_eq!(has(&LOOKUP), looked_up_is(answer, refusal));
+                assert_eq!(has(&PLACING), placed_is(answer, refusal));
             }
         }
     }
@@ -169,6 +220,26 @@ mod tests {
         assert!(catch_unwind(|| looked_up(refused(17, 0))).is_err());
     }
 
+    #[test]
+    fn placing_names_an_index_with_6_and_no_place_with_anything_else() {
+        let refusal = |reason, place| Err(Refusal { reason, place });
+        let taken = |number, place| placed(refused(number, place), 9, 3, 9);
+        for (number, reason) in [
+            (4, Reason::LimitOutOfRange),
+            (5, Reason::TooManyTags),
+            (17, Reason::UnwiredTag),
+            (7, Reason::NoSeed),
+        ] {
+            assert_eq!(taken(number, 0), refusal(reason, 0));
+            assert!(catch_unwind(|| taken(number, 1)).is_err(), "{number}");
+        }
+        assert_eq!(taken(6, 1), refusal(Reason::NotAscending, 1));
+        assert_eq!(taken(6, 31), refusal(Reason::NotAscending, 31));
+        for place in [0, 32] {
+            assert!(catch_unwind(|| taken(6, place)).is_err(), "{place}");
+        }
+    }
+
     fn built_is(answer: u64, refusal: Refusal) -> bool {
         catch_unwind(|| built(answer, LONGEST_IMAGE)).is_ok_and(|taken| taken == Err(refusal))
     }
@@ -179,6 +250,10 @@ mod tests {
 
     fn looked_up_is(answer: u64, refusal: Refusal) -> bool {
         catch_unwind(|| looked_up(answer)).is_ok_and(|taken| taken == Err(refusal))
+    }
+
+    fn placed_is(answer: u64, refusal: Refusal) -> bool {
+        catch_unwind(|| placed(answer, 0, 32, 9)).is_ok_and(|taken| taken == Err(refusal))
     }
 
     #[test]
@@ -198,6 +273,23 @@ mod tests {
         assert_eq!(found(UNKNOWN, 0), None);
         for (answer, count) in [(3, 3), (0, 0), (refused(11, 0), 3), (refused(13, 1), 3)] {
             assert!(catch_unwind(|| found(answer, count)).is_err(), "{answer}");
+        }
+        // No seed: not below the limit, above every seed, for more tags than a group holds.
+        for (answer, count, limit) in [
+            (9, 2, 9),
+            (0, 2, 0),
+            (65_536, 2, 65_537),
+            (UNKNOWN, 2, u32::MAX),
+            (0, 33, 9),
+            (0, 64, 9),
+        ] {
+            let taken = || placed(answer, 0, count, limit);
+            assert!(catch_unwind(taken).is_err(), "{answer} for {count}");
+        }
+        // No choice word: a bit behind the last tag.
+        for (word, count) in [(1, 0), (2, 1), (4, 2), (1 << 31, 31), (u32::MAX, 31)] {
+            let taken = || placed(0, word, count, 9);
+            assert!(catch_unwind(taken).is_err(), "{word} for {count}");
         }
         // No number of a reason, a place that the reason does not name, a place out of range.
         for answer in [

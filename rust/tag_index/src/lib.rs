@@ -1,9 +1,9 @@
-//! The two-choice tag index for a Rust service: building an image from a list, checking it, and
-//! looking up tags in it.
+//! The two-choice tag index for a Rust service: building an image from a list, checking it, looking
+//! up tags in it, and placing a group by itself.
 //!
 //! The work is done by the proved functions behind the C boundary; this crate lends them slices and
-//! takes their answers apart. Every function takes any bytes, and its answer depends on nothing but
-//! its arguments.
+//! takes their answers apart. Every function takes any bytes and any numbers, and its answer depends
+//! on nothing but its arguments.
 //!
 //! ```
 //! let text = tag_index::list_text(2, 9, &[1, 2, 3])?;
@@ -49,7 +49,7 @@ pub const LARGEST_LIST: usize = 4_096;
 pub const LARGEST_GROUP_COUNT: u32 = 512;
 
 /// The most tags of a group.
-pub const LARGEST_GROUP: usize = 24;
+pub const LARGEST_GROUP: usize = 32;
 
 /// The greatest seed limit, L.
 pub const LARGEST_LIMIT: u32 = 65_536;
@@ -250,4 +250,48 @@ pub fn check(image: &[u8]) -> Result<(), Refusal> {
 /// If the library's answer is not one that the papers allow; the proved library's always is.
 pub fn lookup(image: &[u8], tag: u32) -> Result<Option<u32>, Refusal> {
     answer::looked_up(raw::lookup(image, tag))
+}
+
+/// What placing a group comes to: a seed, and one of a tag's two places under it for each tag, so
+/// that no two tags have the same.
+#[derive(Debug, Clone, Copy, PartialEq, Eq, Hash)]
+pub struct Placement {
+    /// The least seed that serves the group, below the seed limit.
+    pub seed: u32,
+    /// The choice word: bit i, counted from the lowest, is the choice of the tag with index i, 0 for
+    /// its first place and 1 for its second. The bits behind the last tag are 0. Of the sequences of
+    /// choices that serve it is the least, compared from the lowest tag on.
+    pub word: u32,
+}
+
+/// Places one group of at most [`LARGEST_GROUP`] tags, in ascending order and without tag 0: the
+/// least seed below the limit that serves it, and the choice of each tag.
+///
+/// An empty group has seed 0 and word 0.
+///
+/// ```
+/// use tag_index::{Placement, Reason};
+/// let placement = tag_index::place_group(&[599, 1_193], 1)?;
+/// assert_eq!(placement, Placement { seed: 0, word: 2 });
+/// // The tag with index 1 takes its second place.
+/// let choices = [0, 1].map(|index| placement.word >> index & 1);
+/// assert_eq!(choices, [0, 1]);
+///
+/// // No seed below L = 1 serves the group of 1 and 3.
+/// let refusal = tag_index::place_group(&[1, 3], 1).unwrap_err();
+/// assert_eq!((refusal.reason, refusal.place), (Reason::NoSeed, 0));
+///
+/// let one_too_many: Vec<u32> = (1..=33).collect();
+/// let refusal = tag_index::place_group(&one_too_many, 9).unwrap_err();
+/// assert_eq!(refusal.reason, Reason::TooManyTags);
+/// # Ok::<(), tag_index::Refusal>(())
+/// ```
+///
+/// # Panics
+///
+/// If the library's answer is not one that the papers allow; the proved library's always is.
+pub fn place_group(tags: &[u32], limit: u32) -> Result<Placement, Refusal> {
+    let mut word = [0];
+    let answer = raw::place_group(tags, limit, &mut word);
+    answer::placed(answer, word[0], tags.len(), limit)
 }

@@ -1,10 +1,10 @@
-//! The three functions of the C boundary, and a safe function over each that answers its 64-bit
+//! The four functions of the C boundary, and a safe function over each that answers its 64-bit
 //! number as it is. All `unsafe` of this crate stands here.
 //!
-//! Each function takes any bytes and any lengths, and reads and writes only inside the ranges
+//! Each function takes any bytes, numbers and lengths, and reads and writes only inside the ranges
 //! given: that is what is proved of them. What the proofs leave to the caller is that a pointer
 //! and a length are a valid range, and that the range written overlaps no other. A slice is such
-//! a range, and `&mut` is alone.
+//! a range, a cell behind a reference too, and `&mut` is alone.
 
 #![allow(unsafe_code)]
 
@@ -19,6 +19,12 @@ mod c {
         ) -> u64;
         pub fn tag_index_check(image: *const u8, image_length: usize) -> u64;
         pub fn tag_index_lookup(image: *const u8, image_length: usize, tag: u32) -> u64;
+        pub fn tag_index_place_group(
+            tags: *const u32,
+            tags_length: usize,
+            limit: u32,
+            word: *mut u32,
+        ) -> u64;
     }
 }
 
@@ -58,4 +64,20 @@ pub fn lookup(image: &[u8], tag: u32) -> u64 {
     // SAFETY: pointer and length come from a slice that lives through the call, and the function
     // only reads.
     unsafe { c::tag_index_lookup(image.as_ptr(), image.len(), tag) }
+}
+
+/// Placing's answer: the seed, with the choice word in the cell lent; or refusal number × 2^32 + place,
+/// with the cell as it was.
+///
+/// ```
+/// let mut word = [9];
+/// assert_eq!(tag_index::raw::place_group(&[599, 1_193], 0, &mut word), 4 << 32);
+/// assert_eq!(word, [9]);
+/// assert_eq!(tag_index::raw::place_group(&[599, 1_193], 1, &mut word), 0);
+/// assert_eq!(word, [2]);
+/// ```
+pub fn place_group(tags: &[u32], limit: u32, word: &mut [u32; 1]) -> u64 {
+    // SAFETY: pointer and length come from a slice, and the other pointer from a reference to one
+    // cell; both live through the call. `word` is borrowed for writing, so `tags` does not overlap it.
+    unsafe { c::tag_index_place_group(tags.as_ptr(), tags.len(), limit, word.as_mut_ptr()) }
 }

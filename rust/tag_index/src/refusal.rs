@@ -3,6 +3,8 @@
 use std::error::Error;
 use std::fmt;
 
+use crate::LARGEST_GROUP;
+
 /// Why an operation refuses: what is the matter with its input. Document 01 numbers them 1 to 16 and
 /// document 02, §1, 17, in this order; more can come, so a `match` needs an arm for the rest.
 ///
@@ -11,7 +13,7 @@ use std::fmt;
 #[non_exhaustive]
 #[repr(u8)]
 pub enum Reason {
-    /// 1: the size of a group is not 1 to 24.
+    /// 1: the size of a group is not 1 to 32.
     SizeOutOfRange = 1,
     /// 2: a seed is above 65,535.
     SeedOutOfRange = 2,
@@ -19,17 +21,17 @@ pub enum Reason {
     ChoiceOutOfRange = 3,
     /// 4: the seed limit L is not 1 to 65,536.
     LimitOutOfRange = 4,
-    /// 5: more tags than 4,096, or a text longer than 65,527 bytes.
+    /// 5: more tags than 4,096, from placing more than 32, or a text longer than 65,527 bytes.
     TooManyTags = 5,
     /// 6: a tag is not above the one before it.
     NotAscending = 6,
-    /// 7: no seed below L serves a group.
+    /// 7: no seed below L serves a group; from placing, which has one group, at place 0.
     NoSeed = 7,
     /// 8: the group count B is not 1 to 512.
     GroupCountOutOfRange = 8,
     /// 9: the buffer is shorter than the image.
     BufferTooShort = 9,
-    /// 10: a group has more than 24 tags.
+    /// 10: a group has more than 32 tags.
     GroupTooLarge = 10,
     /// 11: the image's length is not the one that its first line says.
     WrongLength = 11,
@@ -55,11 +57,12 @@ pub enum PlaceKind {
     Line,
     /// An index in the list of tags.
     Index,
-    /// A group.
+    /// A group; from placing, which has one, always 0.
     Group,
     /// A slot of the image: slot j is line 1 + B + j.
     Slot,
-    /// From building an index in the list of tags, always 0; from checking a slot of the image.
+    /// From building and placing an index in the list of tags, always 0; from checking a slot of the
+    /// image.
     IndexOrSlot,
 }
 
@@ -156,13 +159,16 @@ impl fmt::Display for Refusal {
         let place = self.place;
         write!(f, "refusal {}: ", self.reason.number())?;
         match self.reason {
-            Reason::SizeOutOfRange => write!(f, "the size of the group is not 1 to 24"),
+            Reason::SizeOutOfRange => {
+                write!(f, "the size of the group is not 1 to {LARGEST_GROUP}")
+            }
             Reason::SeedOutOfRange => write!(f, "the seed is above 65535"),
             Reason::ChoiceOutOfRange => write!(f, "the choice is above 1"),
             Reason::LimitOutOfRange => write!(f, "the seed limit L is not 1 to 65536"),
             Reason::TooManyTags => write!(
                 f,
-                "the list has more than 4096 tags, or its text more than 65527 bytes"
+                "a list has more than 4096 tags, a group to be placed more than {LARGEST_GROUP}, \
+                 or a list text more than 65527 bytes"
             ),
             Reason::NotAscending => {
                 write!(f, "the tag at index {place} is not above the one before it")
@@ -170,7 +176,7 @@ impl fmt::Display for Refusal {
             Reason::NoSeed => write!(f, "no seed below the limit serves group {place}"),
             Reason::GroupCountOutOfRange => write!(f, "the group count B is not 1 to 512"),
             Reason::BufferTooShort => write!(f, "the buffer is shorter than the image"),
-            Reason::GroupTooLarge => write!(f, "group {place} has more than 24 tags"),
+            Reason::GroupTooLarge => write!(f, "group {place} has more than {LARGEST_GROUP} tags"),
             Reason::WrongLength => write!(
                 f,
                 "the image's length is not the one that its first line says"

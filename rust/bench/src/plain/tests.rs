@@ -1,6 +1,6 @@
 //! The plain version held against the model: every operation, on whole and damaged texts.
 
-use super::{build, check, lookup};
+use super::{build, check, lookup, place_group, LARGEST_GROUP};
 use model::{answer_build, answer_check, answer_lookup, list_text};
 use random::Random;
 
@@ -25,7 +25,22 @@ fn checked_and_looked_up(image: &[u8], tags: &[u32]) {
     }
 }
 
+/// Places a group with both versions.
+fn placed(tags: &[u32], limit: u32) {
+    const BEFORE: u32 = 9;
+    let mut word = [BEFORE];
+    let answer = place_group(tags, limit, &mut word);
+    let stated = match model::place_group(tags, limit) {
+        Ok((seed, word)) => (seed.into(), [word]),
+        Err(refusal) => ((u64::from(refusal.number) << 32) + refusal.place, [BEFORE]),
+    };
+    assert_eq!((answer, word), stated, "{tags:?}");
+}
+
 fn all_operations(random: &mut Random, groups: u32, limit: u32, tags: &[u32]) {
+    if groups == 1 {
+        placed(tags, limit);
+    }
     let text = list_text(groups, limit, tags);
     let length = 11 * (1 + groups as usize + tags.len());
     let Some(image) = built(&text, length + random.below(3)) else {
@@ -53,7 +68,7 @@ fn random_lists() {
 #[test]
 fn groups_of_every_size() {
     let mut random = Random::new(2);
-    for count in 0..=25 {
+    for count in 0..=LARGEST_GROUP + 1 {
         for limit in [3, 65_536] {
             let tags = random.tags(count);
             all_operations(&mut random, 1, limit, &tags);
@@ -88,14 +103,15 @@ fn ranges_and_order() {
                 vec![5, 5],
                 vec![1, 2, 9, 8, 7],
                 [1, 2, 3, 5, 7].map(|multiple| multiple << 29).to_vec(),
-                (1..=25).collect(),
+                (1..=LARGEST_GROUP as u32 + 1).collect(),
                 // Tag 0: alone, with 6, with 7 and with 10.
                 vec![0],
                 vec![0, 0],
                 vec![0, 7, 7],
                 vec![0, 1_073_741_824, 3_221_225_472],
-                (0..25).collect(),
+                (0..=LARGEST_GROUP as u32).collect(),
             ] {
+                placed(&tags, limit);
                 for room in [0, 32, 33, 44, 60_000] {
                     built(&list_text(groups, limit.min(99_999), &tags), room);
                 }

@@ -1,7 +1,8 @@
-//! The cases of `cases_boundary`: the 64-bit answers of the three functions, for the whole case and
+//! The cases of `cases_boundary`: the 64-bit answers of the four functions, for the whole case and
 //! for refusals of each.
 
 use super::Output;
+use crate::groups::PATH;
 
 pub fn write(output: &mut Output) {
     let texts: [(&str, &[u8]); 9] = [
@@ -42,6 +43,7 @@ pub fn write(output: &mut Output) {
     }
     long_texts(output);
     images(output);
+    groups(output);
 }
 
 /// The longest text that is examined, with its last line well formed and not; and one byte more.
@@ -95,5 +97,30 @@ fn images(output: &mut Output) {
             let answer = model::answer_lookup(image, tag);
             output.words(format!("  lookup of {tag}: {answer}\n"));
         }
+    }
+}
+
+fn groups(output: &mut Output) {
+    let more = [&PATH[..], &[1_706]].concat();
+    let groups: [(&str, &[u32], u32); 14] = [
+        ("worked value 3", &[1, 3], 2),
+        ("empty group", &[], 1),
+        ("tags with the same two places", &[599, 1_193], 1),
+        ("a path of 32 tags", &PATH, 1),
+        ("33 tags", &more, 1),
+        ("33 tags, L = 0", &more, 0),
+        ("L = 0", &[1, 3], 0),
+        ("L = 65537", &[1, 3], 65_537),
+        ("tag 5 after tag 9", &[3, 9, 5], 1),
+        ("tag 5 twice, L = 65537", &[5, 5], 65_537),
+        ("tag 0 twice", &[0, 0], 1),
+        ("tag 0", &[0], 1),
+        ("tag 0 and another, a seed above 0 with L = 1", &[0, 13], 1),
+        ("a seed above 0 with L = 1", &[1, 3], 1),
+    ];
+    for (name, tags, limit) in groups {
+        let mut word = [77];
+        let answer = model::answer_place(tags, limit, &mut word);
+        output.words(format!("{name}: {answer}\n  cell {}\n", word[0]));
     }
 }

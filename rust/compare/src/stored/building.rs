@@ -4,21 +4,19 @@
 use model::Found;
 
 use super::Output;
+use crate::groups::{CLOSE_25, CLOSE_32};
+use crate::lists::{tags_of_group, WITHOUT_PLACE_2};
 
 /// What the buffer holds before building.
 const SIZE: usize = 6_000;
 
 pub fn write(output: &mut Output) {
-    // 24 tags pass to the search, 25 do not: one less than each power of two from 4 on.
-    let full: Vec<u32> = (2..27).map(|power| (1 << power) - 1).collect();
-    let one_large: [u32; 28] = [
-        1, 2, 3, 4, 5, 6, 7, 9, 11, 13, 15, 17, 19, 21, 22, 24, 26, 28, 30, 32, 34, 36, 38, 40, 42,
-        45, 47, 49,
-    ];
-    let from_0: Vec<u32> = (0..25).collect();
-    // Multiples of 2^29 that never reach place 2.
-    let unserved = [1, 2, 3, 5, 7].map(|multiple| multiple << 29);
-    let cases: [(&[u32], u32, u32, usize); 51] = [
+    // 33 tags in one group; 33 in group 1, beside a group 0 that seed 0 does not serve.
+    let close = [&CLOSE_32[..], &[48]].concat();
+    let mut one_large = [tags_of_group(0, 2, 3), tags_of_group(1, 2, 33)].concat();
+    one_large.sort_unstable();
+    let from_0: Vec<u32> = (0..33).collect();
+    let cases: [(&[u32], u32, u32, usize); 52] = [
         (&[1, 2, 3], 2, 9, 65),
         (&[1, 2, 3], 2, 9, 66),
         (&[1, 2, 3], 2, 9, 80),
@@ -56,15 +54,16 @@ pub fn write(output: &mut Output) {
         (&[1, 2, 3, 0], 2, 9, 0),
         (&[1, 3], 1, 1, 43),
         (&[1, 3], 1, 1, 44),
-        (&unserved, 1, 200, 77),
+        (&WITHOUT_PLACE_2, 1, 200, 77),
         (&[5, 8, 13, 16], 3, 1, 88),
         (&[17, 23, 34, 40, 42, 45, 48, 51, 57], 3, 2, 143),
         (&[17, 23, 34, 40, 42, 45, 48, 51, 57], 3, 7, 143),
         (&[18, 20, 27, 34, 36, 40, 41, 43, 50], 3, 1, 143),
-        (&full[..24], 1, 3, 600),
-        (&full, 1, 3, 600),
-        (&full, 1, 3, 296),
-        (&full, 1, 3, 297),
+        (&CLOSE_25, 1, 1, 400),
+        (&close[..32], 1, 1, 400),
+        (&close, 1, 1, 400),
+        (&close, 1, 1, 384),
+        (&close, 1, 1, 385),
         (&[1, 2, 3, 1, 2], 1, 1, 66),
         (&one_large, 2, 1, 600),
         // 17: alone, before 9, 10 and 7, behind 8, 4 and 6.

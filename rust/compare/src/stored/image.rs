@@ -4,11 +4,17 @@
 use model::Found;
 
 use super::Output;
+use crate::groups::{CLOSE_25, CLOSE_32};
 
 pub fn write(output: &mut Output) {
-    // One group of the tags 1 to 25.
-    let tags: String = (1..=25).map(|tag| format!("{tag:>10}\n")).collect();
-    let group_of_25 = format!("   25    1\n    0    0\n{tags}");
+    // One group of 25 tags and one of 32, as building writes them; and one of the tags 1 to 33.
+    let built = |tags: &[u32]| {
+        let image = model::image_of(tags, 1, 1).expect("seed 0 serves these tags");
+        String::from_utf8(image).expect("an image is text")
+    };
+    let (group_of_25, group_of_32) = (built(&CLOSE_25), built(&CLOSE_32));
+    let tags: String = (1..=33).map(|tag| format!("{tag:>10}\n")).collect();
+    let group_of_33 = format!("   33    1\n    0    0\n{tags}");
     let cases = [
         (
             "whole case",
@@ -23,6 +29,8 @@ pub fn write(output: &mut Output) {
             "empty group with a seed",
             "    0    2\n    0    5\n    065535\n",
         ),
+        ("group of 25", &group_of_25),
+        ("group of 32", &group_of_32),
         ("no bytes", ""),
         ("ten bytes", "    3    2"),
         (
@@ -81,7 +89,7 @@ pub fn write(output: &mut Output) {
             "start 99999",
             "    3    2\n    0    0\n99999    1\n         2\n         1\n         3\n",
         ),
-        ("group of 25", &group_of_25),
+        ("group of 33", &group_of_33),
         (
             "starts moved",
             "    3    2\n    0    0\n    2    1\n         2\n         1\n         3\n",

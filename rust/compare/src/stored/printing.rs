@@ -2,14 +2,16 @@
 //! examined and one byte more, and an output that is too short for some image.
 
 use super::Output;
+use crate::groups::CLOSE_32;
 
 /// Where the output has nothing written, it has dots, of which so many are shown.
 const SHOWN: usize = 77;
 const LONGEST_IMAGE: usize = 50_699;
 
 pub fn write(output: &mut Output) {
-    let group_of_25 = model::list_text(1, 9, &(1..=25).collect::<Vec<u32>>());
-    let cases: [(&str, &[u8]); 14] = [
+    let group_of_32 = model::list_text(1, 1, &CLOSE_32);
+    let group_of_33 = model::list_text(1, 9, &(1..=33).collect::<Vec<u32>>());
+    let cases: [(&str, &[u8]); 15] = [
         (
             "whole case",
             b"    2    9\n         1\n         2\n         3\n",
@@ -36,7 +38,8 @@ pub fn write(output: &mut Output) {
             "a seed above 0 with L = 1",
             b"    2    1\n         1\n         2\n         3\n",
         ),
-        ("25 tags in one group", &group_of_25),
+        ("32 tags in one group", &group_of_32),
+        ("33 tags in one group", &group_of_33),
         ("65527 bytes", &[b' '; 65_527]),
         ("65528 bytes", &[b' '; 65_528]),
     ];

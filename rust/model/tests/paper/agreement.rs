@@ -69,7 +69,7 @@ fn placing_finds_the_first_seed_and_least_word_of_brute_force() {
 fn in_large_groups_parts_and_matching_agree_and_the_word_fills() {
     let mut random = Random::new(5);
     let mut served = 0;
-    for n in 13..=24 {
+    for n in 13..=32 {
         for step in STEPS {
             if step == 1 << 28 && n > 15 {
                 continue; // There are only 15 such tags.

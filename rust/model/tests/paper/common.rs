@@ -45,9 +45,26 @@ pub fn fills(tags: &[u32], seed: u32, word: u32) -> bool {
     chosen.windows(2).all(|pair| pair[0] != pair[1])
 }
 
-/// 24 tags that no seed serves: multiples of 2^27, for which only the seed's last three bits count.
+/// A tag that G takes to 1, so that a multiplier takes it to 4s + 2c + 1, which is below 2^18: it has
+/// the place 0 under every seed, in every group of up to 32 tags.
+pub const ALWAYS_AT_0: u32 = 244_002_641;
+
+/// 32 tags that no seed serves, since place 0 is never reached: the 31 multiples of 2^27 have the
+/// other places, one each, and half of 2^32 more than `ALWAYS_AT_0` has the place 16.
 pub fn group_without_seed() -> Vec<u32> {
-    (1..=24).map(|k| k << 27).collect()
+    let mut tags: Vec<u32> = (1..=31).map(|k| k << 27).collect();
+    tags.push((1 << 31) + ALWAYS_AT_0);
+    tags.sort_unstable();
+    tags
+}
+
+/// 32 tags that no seed serves though every place is touched: the multiples of 2^27 but one reach all
+/// places but 0, and two tags have no other place than 0.
+pub fn two_on_place_0() -> Vec<u32> {
+    let mut tags: Vec<u32> = (2..=31).map(|k| k << 27).collect();
+    tags.extend([ALWAYS_AT_0, 2 * ALWAYS_AT_0]);
+    tags.sort_unstable();
+    tags
 }
 
 /// Five tags that no seed serves, since place 2 is never reached: multipliers are odd, so an odd

@@ -5,15 +5,15 @@ use model::{build, check, image_of, lookup, place_group, Found};
 use random::Random;
 
 #[test]
-fn a_group_may_hold_0_1_and_24_tags_and_not_25() {
-    for count in [0, 1, 2, 23, 24] {
+fn a_group_may_hold_0_1_and_32_tags_and_not_33() {
+    for count in [0, 1, 2, 24, 25, 31, 32] {
         let tags: Vec<u32> = (1..=count).collect();
         assert!(place_group(&tags, 65_536).is_ok(), "{count}");
         let image = image_of(&tags, 1, 65_536).unwrap();
         assert_eq!(image.len(), 11 * (2 + tags.len()));
         assert_eq!(check(&image), Ok(()));
     }
-    let tags: Vec<u32> = (1..=25).collect();
+    let tags: Vec<u32> = (1..=33).collect();
     assert_eq!(place_group(&tags, 65_536), Err(refusal(5, 0)));
     assert_eq!(image_of(&tags, 1, 65_536), Err(refusal(10, 0)));
 }
@@ -99,7 +99,7 @@ fn a_buffer_that_is_one_byte_short_is_refused_and_kept() {
 
 #[test]
 fn every_refusal_of_building_leaves_the_buffer_as_it_was() {
-    let ascending: Vec<u32> = (1..=25).collect();
+    let ascending: Vec<u32> = (1..=33).collect();
     let too_many: Vec<u32> = (1..=4_097).collect();
     let cases: [(&[u32], u32, u32, u32); 7] = [
         (&[1], 0, 1, 8),

@@ -15,7 +15,7 @@ fn groups_and_places_are_the_formulas_in_exact_arithmetic() {
     let mut random = Random::new(1);
     for _ in 0..20_000 {
         let (tag, seed, choice) = (random.tag(), random.below(65_536), random.below(2));
-        let (n, groups) = (1 + random.below(24), 1 + random.below(512));
+        let (n, groups) = (1 + random.below(32), 1 + random.below(512));
         let a = (4 * seed as u128 + 2 * choice as u128 + 1) * 2_654_435_761 % two_to_32;
         assert_eq!(a % 2, 1);
         let place = (a * u128::from(tag) % two_to_32) * n as u128 / two_to_32;
@@ -34,7 +34,7 @@ fn a_power_of_two_gives_odd_multiply_shift() {
     let mut random = Random::new(2);
     for _ in 0..2_000 {
         let (tag, seed) = (random.tag(), random.below(65_536) as u32);
-        for bits in 1..=4 {
+        for bits in 1..=5 {
             let product = (multiplier(seed, 1) as u32).wrapping_mul(tag);
             assert_eq!(place_of(1 << bits, seed, 1, tag), product >> (32 - bits));
         }

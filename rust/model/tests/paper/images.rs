@@ -127,24 +127,26 @@ fn checking_names_the_lowest_faulty_group_with_13() {
     // N is lower than the last start.
     let last = with_starts(&["    3    2", "    0    0", "    4    1"]);
     assert_eq!(check(&last), Err(refusal(13, 1)));
-    // The next start is more than 24 above, and so would be that of the group after it.
-    let above = with_starts(&["    3    3", "    0    0", "   25    1", "   50    0"]);
+    // The next start is more than 32 above, and so would be that of the group after it.
+    let above = with_starts(&["    3    3", "    0    0", "   33    1", "   66    0"]);
     assert_eq!(check(&above), Err(refusal(13, 0)));
-    // 24 above is legal; then the last group starts above N.
-    let at_24 = with_starts(&["    3    2", "    0    0", "   24    1"]);
-    assert_eq!(check(&at_24), Err(refusal(13, 1)));
+    // 32 above is legal; then the last group starts above N.
+    let at_32 = with_starts(&["    3    2", "    0    0", "   32    1"]);
+    assert_eq!(check(&at_32), Err(refusal(13, 1)));
 }
 
 #[test]
-fn a_last_group_of_more_than_24_is_faulty() {
-    let mut lines = vec!["   25    1", "    0    0"];
-    lines.extend(["         7"; 25]);
+fn a_last_group_of_more_than_32_is_faulty() {
+    let mut lines = vec!["   33    1", "    0    0"];
+    lines.extend(["         7"; 33]);
     assert_eq!(check(&image(&lines)), Err(refusal(13, 0)));
     assert_eq!(lookup(&image(&lines), 7), Err(refusal(13, 0)));
-    // With 24, checking goes on to the slots.
-    let mut lines = vec!["   24    1", "    0    0"];
-    lines.extend(["         7"; 24]);
+    // With 32, checking and lookup go on to the slots.
+    let mut lines = vec!["   32    1", "    0    0"];
+    lines.extend(["         7"; 32]);
     assert_eq!(check(&image(&lines)).unwrap_err().number, 14);
+    assert!(matches!(lookup(&image(&lines), 7), Ok(Found::Number(_))));
+    assert_eq!(lookup(&image(&lines), 8), Ok(Found::Unknown));
 }
 
 #[test]
@@ -241,7 +243,7 @@ fn lookup_refuses_with_13_at_its_group() {
         Err(refusal(13, 0))
     );
     assert_eq!(
-        lookup(&with_starts("    0    0", "   25    1"), 2),
+        lookup(&with_starts("    0    0", "   33    1"), 2),
         Err(refusal(13, 0))
     );
     assert_eq!(

@@ -34,7 +34,7 @@ fn the_printer_writes_one_line_for_each_refusal() {
         (list_text(1, 1, &[5, 5]), b"    6    1\n"),
         (list_text(1, 1, &[0, 5]), b"   17    0\n"),
         (
-            list_text(1, 1, &(1..26).collect::<Vec<u32>>()),
+            list_text(1, 1, &(1..34).collect::<Vec<u32>>()),
             b"   10    0\n",
         ),
         (list_text(1, 65_536, &group_without_seed()), b"    7    0\n"),

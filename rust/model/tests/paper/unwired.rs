@@ -56,8 +56,8 @@ fn placing_refuses_with_4_5_and_6_before_17_and_with_17_before_7() {
     for limit in [0, 65_537] {
         assert_eq!(place_group(&[0, 1], limit), Err(refusal(4, 0)));
     }
-    assert_eq!(place_group(&with_0(1, 24), 9), Err(refusal(5, 0)));
-    assert_eq!(place_group(&with_0(1, 23), 9), Err(refusal(17, 0)));
+    assert_eq!(place_group(&with_0(1, 32), 9), Err(refusal(5, 0)));
+    assert_eq!(place_group(&with_0(1, 31), 9), Err(refusal(17, 0)));
     // 0 and 13 have the place 0 only, under seed 0: 7 would be due too.
     let tags = [0, 13];
     assert_eq!(places(&tags, 0), [[0, 0], [0, 0]]);
@@ -82,9 +82,9 @@ fn building_refuses_with_8_4_5_and_6_before_17_and_with_17_before_9_10_and_7() {
     // 17 and 9; 17, 9 and 10; 17 and 10 in a buffer that is long enough, at group 0 and at another.
     assert_eq!(build(&[0, 7], 1, 9, &mut none), Err(refusal(17, 0)));
     assert_eq!(build(&many[..4_096], 1, 9, &mut none), Err(refusal(17, 0)));
-    assert_eq!(build(&with_0(1, 24), 1, 9, &mut all), Err(refusal(17, 0)));
+    assert_eq!(build(&with_0(1, 32), 1, 9, &mut all), Err(refusal(17, 0)));
     let mut large_group_1 = vec![0];
-    large_group_1.extend(tags_of_group(1, 2, 25));
+    large_group_1.extend(tags_of_group(1, 2, 33));
     assert_eq!(build(&large_group_1, 2, 9, &mut all), Err(refusal(17, 0)));
     assert_eq!(
         build(&large_group_1[1..], 2, 9, &mut all),
@@ -94,7 +94,7 @@ fn building_refuses_with_8_4_5_and_6_before_17_and_with_17_before_9_10_and_7() {
     // 17 and 7, in the group of tag 0 and in another one.
     assert_eq!(build(&[0, 13], 1, 1, &mut all), Err(refusal(17, 0)));
     let mut unserved_group_1 = vec![0];
-    unserved_group_1.extend(tags_of_group(1, 2, 24));
+    unserved_group_1.extend(tags_of_group(1, 2, 32));
     assert_eq!(
         build(&unserved_group_1, 2, 1, &mut all),
         Err(refusal(17, 0))
@@ -115,7 +115,7 @@ fn reading_takes_tag_0_as_any_other_and_building_refuses_it() {
 
 #[test]
 fn place_of_one_tag_still_takes_tag_0() {
-    for n in 1..=24 {
+    for n in 1..=32 {
         for seed in [0, 1, 65_535] {
             for choice in 0..2 {
                 assert_eq!(place_of_one_tag(n, seed, choice, 0), Ok(0));
@@ -300,7 +300,7 @@ fn groups_without_tag_0_that_no_seed_serves() {
             assert_eq!(four, *tag != 2 << 29);
         }
         // Here too every seed is dropped early.
-        assert!(touched(&group_without_seed(), seed).len() < 24);
+        assert!(touched(&group_without_seed(), seed).len() < 32);
     }
     for tags in [
         &WITHOUT_PLACE_2[..],

@@ -80,9 +80,11 @@ fn value_9_a_repeated_tag_is_refused_at_index_1() {
     assert_eq!(place_group(&[5, 5], 1), Err(refusal(6, 1)));
 }
 
+// "the case of 24 and 25 tags [..] reads 32 and 33" (document 02, §2)
+
 #[test]
-fn value_10_24_tags_pass_to_the_search_and_25_do_not() {
-    let served: Vec<u32> = (1..=24).collect();
+fn value_10_32_tags_pass_to_the_search_and_33_do_not() {
+    let served: Vec<u32> = (1..=32).collect();
     assert!(place_group(&served, 65_536).is_ok());
     assert!(image_of(&served, 1, 65_536).is_ok());
     // 7 comes from the search itself.
@@ -95,7 +97,7 @@ fn value_10_24_tags_pass_to_the_search_and_25_do_not() {
         Err(refusal(7, 0))
     );
 
-    let one_more: Vec<u32> = (1..=25).collect();
+    let one_more: Vec<u32> = (1..=33).collect();
     assert_eq!(image_of(&one_more, 1, 65_536), Err(refusal(10, 0)));
     assert_eq!(place_group(&one_more, 65_536), Err(refusal(5, 0)));
 }
