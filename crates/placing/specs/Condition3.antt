@@ -4,26 +4,28 @@ use mathlib.Core.Path.{_≡_}
 use mathlib.Core.Logic.{_↔_}
 use mathlib.Core.Bool.{Bool}
 use mathlib.Core.List.{List}
-use Prim.Native.Nat.{ℕ, suc, _^_, _≤_, _<_}
-use lib.ListN.{length, getD}
+use Prim.Native.Nat.{ℕ, _^_, _≤_, _<_}
+use lib.ListN.{length}
 use Rattle.refusal.specs.Limits.{limitMax, groupMax}
 use Rattle.refusal.specs.Outcome.{Outcome, answered, refused}
 use Rattle.filling.specs.Filling.{Fills}
 use Rattle.filling.specs.Least.{NotAfter}
 use Rattle.filling.specs.Word.{choicesOf}
 use Rattle.group.specs.Group.{groupUnder}
+use Rattle.group.specs.Ascending.{Ascending}
+use Rattle.group.specs.Unwired.{FirstWired}
 use Rattle.group.specs.Placing.{Placement}
 
 -- "No sequence of choices whatever" gives each tag a place of its own, under any seed below the limit.
 abbrev pub Unserved : List ℕ → ℕ → Type 0
 Unserved tags limit = (s : ℕ) → s < limit → (choices : List Bool) → Fills (groupUnder tags s) choices → ⊥
 
--- The checks that placing makes before 7: four conditions on the inputs. The first tag, where there is one, is not 0.
+-- The checks that placing makes before 7: four conditions on the inputs.
 pub record GroupChecks (tags : List ℕ) (limit : ℕ) : Type 0 where
   pub limit-legal : (1 ≤ limit) × (limit ≤ limitMax)
   pub count-legal : length tags ≤ groupMax
-  pub ascending : (i : ℕ) → suc i < length tags → getD tags i 0 < getD tags (suc i) 0
-  pub wired : 0 < length tags → 0 < getD tags 0 0
+  pub ascending : Ascending tags
+  pub wired : FirstWired tags
 
 -- What holds of a seed and a choice word that were answered.
 pub record Placed (tags : List ℕ) (limit : ℕ) (placed : Placement) : Type 0 where

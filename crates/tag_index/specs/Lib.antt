@@ -4,5 +4,5 @@ pub mod Answer64Laws
 pub mod Condition2
 pub mod Condition2Laws
 pub mod Condition3
-pub mod PlacedLaws
+pub mod PlaceGroupLaws
 pub mod UnwiredLaws
