@@ -10,8 +10,7 @@ use Rattle.numbering.specs.Writing.{writingOf, bufferWritten}
 use Rattle.numbering.specs.Building.{buildingOf, bufferAfter}
 use Rattle.numbering.specs.BuildingLaws.{building-unplanned, building-as-written, buffer-as-written, buffer-kept}
 use Rattle.condition3.specs.Condition3.{Condition3}
-use Rattle.condition3_theorem.specs.Condition3Theorem.{condition3}
-use Rattle.writing.specs.PromiseLaws.{tags-of-words}
+use Rattle.condition3_theorem.specs.Condition3Theorem.{tags-of-words, condition3}
 
 -- The answer, the plan, the buffer, and Condition 3: for an answer `outcome` that left `plan` and `after`.
 abbrev pub Promised : List ℕ → ℕ → ℕ → List ℕ → Outcome ℕ → List ℕ → List ℕ → Type 0
