@@ -55,8 +55,8 @@ pub record EarlierChecks (tags : List ℕ) (groups limit : ℕ) : Type 0 where
 pub record Serves (tags : List ℕ) (groups limit : ℕ) (plan : List ℕ) : Type 0 where
   pub groups-are : plannedGroups plan ≡ groups
   pub below-limit : (g : ℕ) → g < groups → plannedSeed plan g < limit
-  pub choices : ℕ → List Bool
-  pub fills : (g : ℕ) → g < groups → GroupFills groups tags g (plannedSeed plan g) (choices g)
+  pub serving : ℕ → List Bool
+  pub served : (g : ℕ) → g < groups → GroupFills groups tags g (plannedSeed plan g) (serving g)
 
 -- What holds of the yielded plan, and of an answer of planning or of building: `answer` is either.
 pub record SeedCondition3 (tags : List ℕ) (groups limit : ℕ) (answer : Outcome ℕ) (plan : List ℕ) : Type 0 where

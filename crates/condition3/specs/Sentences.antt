@@ -25,7 +25,7 @@ use Rattle.image.specs.Lookup.{number, unknown, lookupOf}
 use Rattle.numbering.specs.Members.{members, startOf}
 use Rattle.numbering.specs.Number.{placeIn, numberOf}
 use Rattle.numbering.specs.Plan.{plannedGroups, plannedSeed}
-use Rattle.condition3.specs.Condition3.{LowestWithout, EarlierChecks, Serves, Accepted, Condition3}
+use Rattle.condition3.specs.Condition3.{LowestWithout, EarlierChecks, Serves, PlanningCondition3, Accepted, Condition3}
 
 -- A sequence of choices that "makes a seed … give each of its tags a place of its own"; and that there is none.
 abbrev pub Places : List ℕ → ℕ → ℕ → ℕ → List Bool → Type 0
@@ -172,7 +172,7 @@ module _ {tags : List ℕ} {groups limit room : ℕ} {plan : List ℕ} {answer :
           × ((g : ℕ) → g < groups → (plannedSeed plan g < limit) × ((choices : List Bool) × Places tags groups g (plannedSeed plan g) choices))
       planned-otherwise =
           let serves = c .seeds .otherwise-serves checks not-without in
-          (serves .groups-are, λ g lt. (serves .below-limit g lt, ((serves .choices) g, serves .fills g lt)))
+          (serves .groups-are, λ g lt. (serves .below-limit g lt, ((serves .serving) g, serves .served g lt)))
 
       -- and the list is accepted if the image fits the buffer, and refused with 9 if it does not.
       pub accepted-otherwise : 11 * (1 + groups + length tags) ≤ room → answer ≡ answered (11 * (1 + groups + length tags))
@@ -226,3 +226,10 @@ module _ {tags : List ℕ} {groups limit room : ℕ} {plan : List ℕ} {answer :
             → (b : Bool) → ltb h g ≡ b → g ≤ h
         not-lower lower h none-there true e = absurd (none-there (lower h (ltb-true h g e)))
         not-lower lower h none-there false e = ltb-false h g e
+
+-- Of planning by itself: a list that passes all earlier checks, each group of which has such a seed, is planned.
+pub planned-answered : {tags : List ℕ} {groups limit : ℕ} {plan : List ℕ} {answer : Outcome ℕ}
+    → PlanningCondition3 tags groups limit answer plan → EarlierChecks tags groups limit
+    → ((g : ℕ) → g < groups → Seed tags groups limit g) → answer ≡ answered groups
+planned-answered p checks every =
+    p .otherwise checks (λ g low. let has = every g (low .group) in low .without (has .0) (has .1) (has .2 .0) (has .2 .1))

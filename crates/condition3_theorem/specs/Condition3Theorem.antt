@@ -143,8 +143,8 @@ module _ (tags : List ℕ) (groups limit : ℕ) where
     yielded-serves = record {
       groups-are = groups-planned;
       below-limit = λ g lt. rw (seed-planned g lt) ((takes g lt) .below);
-      choices = choicesTaken groups tags limit;
-      fills = λ g lt. rw (seed-planned g lt) ((takes g lt) .fills);
+      serving = choicesTaken groups tags limit;
+      served = λ g lt. rw (seed-planned g lt) ((takes g lt) .fills);
     }
 
   -- What is below a seed of the plan is passed over, whether planning answered or not.

@@ -16,5 +16,6 @@ pub mod PlanningLaws
 pub mod WritingLaws
 pub mod BuildingLaws
 pub mod OneCallLaws
+pub mod Examples
 pub mod FromText
 pub mod UnwiredLaws

@@ -27,7 +27,7 @@ pub fn plan_list(
     plan: &mut [u32; refusal::PLAN_CELLS],
 ) -> PlanAnswer
     ensures answer { λ r. ⌜ planOutcome r ≡ planningOf (now (tags .entry)) groups limit ⌝ }
-    ensures plan { λ _. ⌜ now (plan .exit) ≡ planAfter (now (tags .entry)) groups limit ⌝ }
+    ensures plan { λ r. ⌜ now (plan .exit) ≡ planAfter (now (tags .entry)) groups limit ⌝ }
     ensures condition3 { λ r. ⌜ PlanningCondition3 (now (tags .entry)) groups limit (planOutcome r) (now (plan .exit)) ⌝ }
 {
     *plan = [0; refusal::PLAN_CELLS];

@@ -28,8 +28,10 @@ use Rattle.lists.specs.UpTo.{upTo}
 use Rattle.image.specs.Sheet.{linesOf, bytesOf, imageLength}
 use Rattle.numbering.specs.Members.{select, members, startOf}
 use Rattle.numbering.specs.Number.{choiceOf, placeIn, numberOf, tagNumbered}
-use Rattle.numbering.specs.Building.{sheetOf, seedTaken, choicesTaken, imageOf, earlierChecks, buildingChecks, buildingOf, written}
-use Rattle.numbering.specs.Building.{bufferAfter}
+use Rattle.numbering.specs.Plan.{planOf, plannedGroups, plannedSeed}
+use Rattle.numbering.specs.Planning.{earlierChecks, planningChecks, planningOf, seedTaken, planAfter}
+use Rattle.numbering.specs.Writing.{sheetOf, choicesUnder, imageUnder, writingChecks, writingOf, plannedImage, written, bufferWritten}
+use Rattle.numbering.specs.Building.{buildingOf, bufferAfter}
 use Rattle.worked.specs.Row.{Claim, Holds, AllHold, RowHolds, Every}
 use Rattle.worked.specs.UnreachedLaws.{place-never-one}
 use Rattle.worked.specs.Table.{value1, value2, value3, value4, value5, value6, value7, value8, value9, table}
@@ -45,7 +47,8 @@ unfolding AllHold Holds metAt isSome met inOrder orElse product highPart hashed 
     oneTagChecks placeOfOneTag occurs distinct placeBy chosen beginning leastFrom least feasible choiceNumber wordOf
     bothPlaces candidates taken notAbove startsUnwired placingChecks placementOf placingOf imageLength
     select members startOf choiceOf placeIn numberOf tagNumbered leading figure pairLine flatten upTo linesOf bytesOf
-    sheetOf seedTaken choicesTaken imageOf buildingChecks earlierChecks buildingOf written bufferAfter
+    followedBy onAnswer planOf plannedGroups plannedSeed earlierChecks planningChecks planningOf seedTaken planAfter sheetOf
+    choicesUnder imageUnder writingChecks writingOf plannedImage written bufferWritten buildingOf bufferAfter
 computed = 0
 
 -- B = 1 is a legal group count.

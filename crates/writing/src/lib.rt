@@ -32,7 +32,7 @@ pub fn write_list(
     buffer: &mut [u8],
 ) -> WriteAnswer
     ensures answer { λ r. ⌜ writeOutcome r ≡ writingOf (now (tags .entry)) (now (plan .entry)) (length (now (buffer .entry))) ⌝ }
-    ensures bytes { λ _. ⌜ now (buffer .exit) ≡ bufferWritten (now (tags .entry)) (now (plan .entry)) (now (buffer .entry)) ⌝ }
+    ensures bytes { λ r. ⌜ now (buffer .exit) ≡ bufferWritten (now (tags .entry)) (now (plan .entry)) (now (buffer .entry)) ⌝ }
     ensures condition3 { λ r. ⌜ WritingCondition3 (now (tags .entry)) (now (plan .entry)) (writeOutcome r) (now (buffer .exit)) ⌝ }
 {
     let groups = plan[0];
