@@ -10,6 +10,7 @@ use borrow.Author.Tests.{le-ltb}
 use Rattle.refusal.specs.Limits.{limitMax, groupsMax, outside}
 use Rattle.refusal.specs.LimitsLaws.{outside-not}
 use Rattle.lists.specs.First.{first, metAt, isSome}
+use Rattle.refusal.specs.Outcome.{followedBy, onAnswer}
 use Rattle.refusal.specs.Checks.{met, inOrder}
 use Rattle.hash.specs.Formula.{product, highPart, hashed, groupOf, multiplier, placeOf}
 use Rattle.hash.specs.OneTag.{oneTagChecks, placeOfOneTag}

@@ -6,7 +6,7 @@ use mathlib.Core.Option.{orElse}
 use Prim.Native.Nat.{ℕ}
 use lib.ListN.{take, set}
 use Rattle.refusal.specs.Limits.{outside}
-use Rattle.refusal.specs.Outcome.{answered, refused, answeredBy, followedBy}
+use Rattle.refusal.specs.Outcome.{answered, refused, answeredBy, followedBy, onAnswer}
 use Rattle.lists.specs.First.{first, metAt, isSome}
 use Rattle.refusal.specs.Checks.{met, inOrder}
 use Rattle.hash.specs.Formula.{product, highPart, hashed, groupOf, multiplier, placeOf}
