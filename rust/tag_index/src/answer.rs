@@ -294,6 +294,7 @@ mod tests {
         // No number of a reason, a place that the reason does not name, a place out of range.
         for answer in [
             refused(18, 0),
+            refused(19, 0),
             u64::MAX,
             refused(9, 1),
             refused(6, 0),
