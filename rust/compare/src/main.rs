@@ -222,8 +222,8 @@ fn compare(options: &Options) -> bool {
     let mut random = Random::new(options.seed);
     let size = &options.size;
     groups::chosen(&mut tally, &mut random);
-    lists::compare(&mut tally, &mut random, size);
     plans::compare(&mut tally, &mut random, size);
+    lists::compare(&mut tally, &mut random, size);
     texts::compare(&mut tally, &mut random, size);
     images::compare(&mut tally, &mut random, size);
     groups::compare(&mut tally, &mut random, size);
