@@ -106,22 +106,15 @@ fn plans() {
     plan(b"B = 512", &[1, 908, 4294967295], 512, 1);
 }
 
-// Each refusal of planning, and which of two comes first: 8, 4, 5, 6, 17, 10, 7. Before the last one, group 0 has its seed, which is 1.
-fn refused_plans(many: &[u32], large: &[u32; 36]) {
+// Each refusal of planning but 10, and which of two comes first: 8, 4, 5, 6, 17, 7. Before the last one group 0 has its seed, which is 1.
+fn refused_plans(many: &[u32]) {
     plan(b"B = 0", &[1, 2, 3], 0, 9);
     plan(b"B = 513, L = 0", &[1, 2, 3], 513, 0);
     plan(b"L = 0, 4097 tags", many, 2, 0);
     plan(b"L = 65537", &[1, 2, 3], 2, 65537);
     plan(b"4097 equal tags", many, 2, 9);
     plan(b"tag 5 twice, behind tag 0", &[0, 5, 5], 2, 9);
-    plan(b"tag 0, and 33 tags in group 1", large, 2, 1);
-    plan(
-        b"33 tags in group 1, group 0 without a seed",
-        &large[1..],
-        2,
-        1,
-    );
-    plan(b"group 0 without a seed", &large[1..35], 2, 1);
+    plan(b"tag 0", &[0, 1, 3], 2, 1);
     plan(b"group 1 without a seed", &[1, 3, 4, 9, 12], 2, 2);
 }
 
@@ -175,12 +168,59 @@ fn refused(many: &[u32]) {
     write(b"5 tags, room for 4", &[1, 2, 3, 4, 5], 2, 0, 0, 0);
 }
 
-// 33 tags in group 1: 9 comes before 10, and 10 before 18. With one tag less, 18 at each group.
-fn sizes(large: &[u32; 36]) {
-    write(b"33 tags in group 1, room for 4", &large[1..], 2, 0, 0, 0);
-    write_large(b"33 tags in group 1", &large[1..], 2, 0, 0);
-    write_large(b"neither served", &large[1..35], 2, 0, 0);
-    write_large(b"group 1 not served", &large[1..35], 2, 1, 0);
+// 33 tags in group 1, and a group 0 that seed 0 does not serve: 17 comes before 10, 10 before 7, 9 before 10, and 10 before 18. With one
+// tag less, 7 at group 0, and 18 at each group.
+fn sizes() {
+    let tags = [
+        0u32,
+        1,
+        3,
+        4,
+        5,
+        7,
+        9,
+        11,
+        12,
+        13,
+        15,
+        17,
+        19,
+        21,
+        22,
+        24,
+        26,
+        28,
+        30,
+        32,
+        34,
+        36,
+        38,
+        40,
+        42,
+        45,
+        47,
+        49,
+        51,
+        53,
+        55,
+        57,
+        59,
+        61,
+        63,
+        66,
+    ];
+    plan(b"tag 0, and 33 tags in group 1", &tags, 2, 1);
+    plan(
+        b"33 tags in group 1, group 0 without a seed",
+        &tags[1..],
+        2,
+        1,
+    );
+    plan(b"group 0 without a seed", &tags[1..35], 2, 1);
+    write(b"33 tags in group 1, room for 4", &tags[1..], 2, 0, 0, 0);
+    write_large(b"33 tags in group 1", &tags[1..], 2, 0, 0);
+    write_large(b"neither served", &tags[1..35], 2, 0, 0);
+    write_large(b"group 1 not served", &tags[1..35], 2, 1, 0);
 }
 
 // 32 tags that the last seed serves, and no other.
@@ -225,49 +265,11 @@ fn last_seed() {
 
 fn main() {
     let many = [5u32; 4097];
-    let large = [
-        0u32,
-        1,
-        3,
-        4,
-        5,
-        7,
-        9,
-        11,
-        12,
-        13,
-        15,
-        17,
-        19,
-        21,
-        22,
-        24,
-        26,
-        28,
-        30,
-        32,
-        34,
-        36,
-        38,
-        40,
-        42,
-        45,
-        47,
-        49,
-        51,
-        53,
-        55,
-        57,
-        59,
-        61,
-        63,
-        66,
-    ];
     in_turn();
     plans();
-    refused_plans(&many, &large);
+    refused_plans(&many);
     seeds();
     refused(&many);
-    sizes(&large);
+    sizes();
     last_seed();
 }

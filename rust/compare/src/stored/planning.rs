@@ -14,12 +14,20 @@ pub fn write(output: &mut Output) {
     let mut large = [&[4, 12][..], &tags_of_group(1, 2, 33)].concat();
     large.sort_unstable();
     in_turn(output);
-    for (name, tags, groups, limit) in plans(&many, &large, &behind_0(&large)) {
+    for (name, tags, groups, limit) in plans(&many) {
         planned(output, name, tags, groups, limit);
     }
-    for (name, tags, groups, seeds) in small(&many, &large) {
+    for (name, tags, groups, seeds) in small(&many) {
         written(output, name, tags, &plan(groups, &seeds), 77);
     }
+    // 17 before 10, 10 before 7, and 7; 9 before 10.
+    let name = "tag 0, and 33 tags in group 1";
+    planned(output, name, &behind_0(&large), 2, 1);
+    let name = "33 tags in group 1, group 0 without a seed";
+    planned(output, name, &large, 2, 1);
+    planned(output, "group 0 without a seed", &large[..34], 2, 1);
+    let name = "33 tags in group 1, room for 4";
+    written(output, name, &large, &plan(2, &[0, 0, 0]), 77);
     let cases: [(&str, &[u32], u32, [u32; 2]); 5] = [
         ("33 tags in group 1", &large, 2, [0, 0]),
         ("neither served", &large[..34], 2, [0, 0]),
@@ -86,12 +94,9 @@ fn in_turn(output: &mut Output) {
     written(output, "under the refused plan", &[1, 2, 3], &plan, 77);
 }
 
-/// Plans, and then each refusal of planning in the order written, of which several are due at once.
-fn plans<'a>(
-    many: &'a [u32],
-    large: &'a [u32],
-    large_behind_0: &'a [u32],
-) -> [(&'static str, &'a [u32], u32, u32); 13] {
+/// Plans, and then each refusal of planning but 10 in the order written, of which several are due at
+/// once.
+fn plans(many: &[u32]) -> [(&'static str, &[u32], u32, u32); 11] {
     [
         ("seeds 1 and 2", &[1, 3, 4, 9, 12], 2, 3),
         ("no tags", &[], 3, 1),
@@ -102,15 +107,13 @@ fn plans<'a>(
         ("L = 65537", &[1, 2, 3], 2, 65_537),
         ("4097 equal tags", many, 2, 9),
         ("tag 5 twice, behind tag 0", &[0, 5, 5], 2, 9),
-        ("tag 0, and 33 tags in group 1", large_behind_0, 2, 1),
-        ("33 tags in group 1, group 0 without a seed", large, 2, 1),
-        ("group 0 without a seed", &large[..34], 2, 1),
+        ("tag 0", &[0, 1, 3], 2, 1),
         ("group 1 without a seed", &[1, 3, 4, 9, 12], 2, 2),
     ]
 }
 
 /// Writings into 77 bytes, with three seeds each.
-fn small<'a>(many: &'a [u32], large: &'a [u32]) -> [(&'static str, &'a [u32], u32, [u32; 3]); 29] {
+fn small(many: &[u32]) -> [(&'static str, &[u32], u32, [u32; 3]); 28] {
     const HIGH: u32 = u32::MAX;
     [
         ("seeds 0 and 1", &[1, 2, 3], 2, [0, 1, HIGH]),
@@ -147,6 +150,5 @@ fn small<'a>(many: &'a [u32], large: &'a [u32]) -> [(&'static str, &'a [u32], u3
         ("tag 0, room for 4 tags", &[0, 1, 2, 3, 4], 2, [0, 1, 0]),
         ("tag 0", &[0, 1, 2], 2, [0, 0, 0]),
         ("5 tags, room for 4", &[1, 2, 3, 4, 5], 2, [0, 0, 0]),
-        ("33 tags in group 1, room for 4", large, 2, [0, 0, 0]),
     ]
 }
