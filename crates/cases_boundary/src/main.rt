@@ -17,13 +17,18 @@ fn build(name: &[u8], text: &[u8]) {
     report::words(b"\n");
 }
 
+// Prints what stands in the cells that planning was lent.
+fn plan_cells(cells: &[u32; 513]) {
+    report::words(b"  cells");
+    report::numbers(cells);
+    report::words(b"\n");
+}
+
 // Plans from a text into cells that all hold 9, and prints the answer and all cells.
 fn plan(name: &[u8], text: &[u8]) {
     let mut cells = [9u32; 513];
     answer(name, tag_index::tag_index_plan(text, &mut cells));
-    report::words(b"  cells");
-    report::numbers(&cells);
-    report::words(b"\n");
+    plan_cells(&cells);
 }
 
 // Writes the tags of a text with a plan of two seeds, behind which all cells hold 4,294,967,295, into a buffer of 77 bytes.
