@@ -7,12 +7,12 @@ use crate::cases::{self, Case, LIMIT};
 use crate::versions::{Version, BOTH, PLAIN};
 use random::Random;
 use std::hint::black_box;
-use tag_index::LONGEST_IMAGE;
+use tag_index::{LONGEST_IMAGE, PLAN_CELLS};
 
 /// Lookups in a repetition.
 const LOOKUPS: usize = 1_000;
 
-const OPERATIONS: [&str; 5] = ["build", "check", "hits", "misses", PLACE];
+const OPERATIONS: [&str; 7] = ["build", "plan", "write", "check", "hits", "misses", PLACE];
 
 /// The operation that takes groups and no list.
 const PLACE: &str = "place";
@@ -33,11 +33,14 @@ pub fn print_cases() {
 
 /// The cases that an operation on lists takes.
 fn cases_of(operation: &str) -> Vec<Case> {
-    let mut cases = cases::built();
-    if operation == "build" {
-        cases.extend(cases::unserved());
+    match operation {
+        "build" => cases::built()
+            .into_iter()
+            .chain(cases::unserved())
+            .collect(),
+        "plan" | "write" => cases::planned(),
+        _ => cases::built(),
     }
-    cases
 }
 
 pub fn run(case: &str, version: &str, repetitions: &str) -> Result<(), String> {
@@ -87,6 +90,25 @@ fn repeat(operation: &str, case: &Case, version: Version, repetitions: u32) {
     if operation == "build" {
         for _ in 0..repetitions {
             black_box((version.build)(black_box(&text), black_box(&mut buffer)));
+        }
+        return;
+    }
+    let mut plan = [0; PLAN_CELLS];
+    if operation == "plan" {
+        for _ in 0..repetitions {
+            black_box((version.plan)(black_box(&text), black_box(&mut plan)));
+        }
+        return;
+    }
+    if operation == "write" {
+        let groups = (PLAIN.plan)(&text, &mut plan);
+        assert_eq!(groups, case.groups.into(), "{} is not planned", case.title);
+        for _ in 0..repetitions {
+            black_box((version.write)(
+                black_box(&text),
+                black_box(&plan),
+                black_box(&mut buffer),
+            ));
         }
         return;
     }
