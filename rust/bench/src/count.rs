@@ -84,37 +84,45 @@ fn repeat_placing(groups: &[Vec<u32>], version: Version, repetitions: u32) {
     }
 }
 
+/// Runs an operation on a list, or on its image.
 fn repeat(operation: &str, case: &Case, version: Version, repetitions: u32) {
-    let text = case.text();
+    let text = &case.text()[..];
     let mut buffer = vec![b'.'; LONGEST_IMAGE];
-    if operation == "build" {
-        for _ in 0..repetitions {
-            black_box((version.build)(black_box(&text), black_box(&mut buffer)));
-        }
-        return;
-    }
     let mut plan = [0; PLAN_CELLS];
-    if operation == "plan" {
-        for _ in 0..repetitions {
-            black_box((version.plan)(black_box(&text), black_box(&mut plan)));
+    match operation {
+        "build" => {
+            for _ in 0..repetitions {
+                black_box((version.build)(black_box(text), black_box(&mut buffer)));
+            }
         }
-        return;
-    }
-    if operation == "write" {
-        let groups = (PLAIN.plan)(&text, &mut plan);
-        assert_eq!(groups, case.groups.into(), "{} is not planned", case.title);
-        for _ in 0..repetitions {
-            black_box((version.write)(
-                black_box(&text),
-                black_box(&plan),
-                black_box(&mut buffer),
-            ));
+        "plan" => {
+            for _ in 0..repetitions {
+                black_box((version.plan)(black_box(text), black_box(&mut plan)));
+            }
         }
-        return;
+        "write" => {
+            let groups = (PLAIN.plan)(text, &mut plan);
+            assert_eq!(groups, case.groups.into(), "{} is not planned", case.title);
+            for _ in 0..repetitions {
+                let buffer = black_box(&mut buffer);
+                black_box((version.write)(black_box(text), black_box(&plan), buffer));
+            }
+        }
+        _ => {
+            let length = (PLAIN.build)(text, &mut buffer);
+            assert_eq!(length >> 32, 0, "{} is not built", case.title);
+            repeat_on_image(
+                operation,
+                case,
+                &buffer[..length as usize],
+                version,
+                repetitions,
+            );
+        }
     }
-    let length = (PLAIN.build)(&text, &mut buffer);
-    assert_eq!(length >> 32, 0, "{} is not built", case.title);
-    let image = &buffer[..length as usize];
+}
+
+fn repeat_on_image(operation: &str, case: &Case, image: &[u8], version: Version, repetitions: u32) {
     let mut random = Random::new(3);
     let mut queries = match operation {
         "misses" => case.absent(&mut random),
