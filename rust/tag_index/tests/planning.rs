@@ -271,6 +271,8 @@ fn planning_refuses_in_order_and_leaves_zeros() {
         (list_text(1, 1, &crowded), Reason::GroupTooLarge, 0),
         (list_text(1, 1, &[1, 3]), Reason::NoSeed, 0),
         (list_text(2, 1, &[1, 2, 3]), Reason::NoSeed, 1),
+        // Seed 1 serves group 0, and none below 2 group 1.
+        (list_text(2, 2, &[4, 9, 12, 17]), Reason::NoSeed, 1),
     ] {
         let refused = refusal(reason, place);
         assert_eq!(tag_index::plan(&text), Err(refused));
