@@ -56,10 +56,8 @@ impl Plan {
     /// # Ok::<(), tag_index::BuildError>(())
     /// ```
     pub fn seed(&self, group: u32) -> Option<u32> {
-        match group < self.groups() {
-            true => self.cells.get(1 + group as usize).copied(),
-            false => None,
-        }
+        let seed = self.cells[1..].get(group as usize)?;
+        (group < self.groups()).then_some(*seed)
     }
 
     /// All numbers of the plan: B, and the seed of group g at index 1 + g. In a plan that [`plan`] made
