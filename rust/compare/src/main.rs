@@ -1,5 +1,5 @@
 //! Runs cases against the model of the papers: the proved functions over the C boundary, answers
-//! and every byte of the buffer, the binding's `Index`, and the index printer.
+//! and every lent cell and byte, the binding's `Index` and `Plan`, and the index printer.
 //!
 //!     compare                  a million answers and more, under a minute
 //!     compare --long           more than ten million, and many more lists

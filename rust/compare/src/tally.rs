@@ -5,7 +5,7 @@ use std::process;
 
 use model::boundary::Cells;
 use model::placing::LARGEST_GROUP;
-use tag_index::{raw, Index, Reason, UNKNOWN};
+use tag_index::{raw, Index, Plan, Reason, Refusal, UNKNOWN};
 
 /// Bytes behind the buffer that building or writing is lent, which must stay as they are.
 const GUARD: usize = 32;
@@ -401,26 +401,39 @@ impl Tally {
     }
 
     /// Plans, writes with the plan as it was yielded, and builds, all in the library: building answers
-    /// what planning refuses and otherwise what writing answers, and leaves the same bytes.
+    /// what planning refuses and otherwise what writing answers, and leaves the same bytes. Then the
+    /// same through the binding, with the plan stored and taken back before writing.
     pub fn in_turn(&mut self, text: &[u8], room: usize) {
+        let mut built = patterned(room);
+        let expected = raw::build(text, &mut built);
+
         let mut cells = [!0; 513];
         let mut written = patterned(room);
         let mut answer = raw::plan(text, &mut cells);
         if answer >> 32 == 0 {
             answer = raw::write(text, &cells, &mut written);
         }
-        let mut built = patterned(room);
-        let in_one = raw::build(text, &mut built);
-        if answer != in_one || written != built {
-            let (kind, answer, in_one) = (self.kind, said(answer), said(in_one));
+        self.same_as_built(text, (expected, &built), (answer, &written));
+
+        let mut written = patterned(room);
+        let answer = tag_index::plan(text)
+            .map(|plan| Plan::from_le_bytes(&plan.to_le_bytes()))
+            .and_then(|plan| tag_index::write(text, &plan, &mut written))
+            .map_or_else(answer_of, |length| length as u64);
+        self.same_as_built(text, (expected, &built), (answer, &written));
+        self.plans.in_turn += 1;
+    }
+
+    /// Compares what the two calls answered and left with what building did.
+    fn same_as_built(&self, text: &[u8], built: (u64, &[u8]), written: (u64, &[u8])) {
+        if built != written {
+            let (kind, input) = (self.kind, shown(text));
+            let [built, answer] = [built.0, written.0].map(said);
             differs(&format!(
-                "planning and writing in turn ({kind}): the library answers {answer}, and builds with \
-                 {in_one}; the same bytes: {}\n{}",
-                written == built,
-                shown(text)
+                "planning and writing in turn ({kind}): the library answers {answer}, and in building \
+                 {built}\n{input}"
             ));
         }
-        self.plans.in_turn += 1;
     }
 
     /// Counts a case in which several refusals were due at once, the first two of them in the order
@@ -490,7 +503,7 @@ impl Tally {
         let index = match taken {
             Ok(index) => index,
             Err(refusal) => {
-                let answer = (u64::from(refusal.reason.number()) << 32) + u64::from(refusal.place);
+                let answer = answer_of(refusal);
                 if answer != checked {
                     self.differs("taking an index", image, answer, checked, "");
                 }
@@ -659,6 +672,11 @@ fn planned(plan: &Cells) -> String {
 pub fn differs(what: &str) -> ! {
     println!("compare: difference: {what}");
     process::exit(1)
+}
+
+/// The answer that stands for a refusal of the binding.
+fn answer_of(refusal: Refusal) -> u64 {
+    (u64::from(refusal.reason.number()) << 32) + u64::from(refusal.place)
 }
 
 /// An answer in words.
