@@ -123,8 +123,8 @@ fn plans() {
         b"    2    9\n         0\n         1\n         2\n",
     );
     plan(
-        b"plan, a seed above 0 with L = 1",
-        b"    2    1\n         1\n         2\n         3\n",
+        b"plan, seeds 1 and 2 with L = 2",
+        b"    2    2\n         1\n         3\n         4\n         9\n        12\n",
     );
 }
 

@@ -134,7 +134,7 @@ fn seeds() {
     write(b"two empty groups and one tag", &[13], 3, 1, 2, 3);
 }
 
-// Each refusal of writing but 10, and which of two comes first: 8, 2, 5, 6, 17, 9.
+// Each refusal of writing but 10, and which of two comes first: 8, 2, 5, 6, 17, 9, 18.
 fn refused(many: &[u32]) {
     write(b"B = 0, seed 65536", &[1, 2, 3], 0, 65536, 1, 0);
     write(b"B = 513, seed 65536", &[1, 2, 3], 513, 65536, 1, 0);
@@ -165,10 +165,17 @@ fn refused(many: &[u32]) {
     write(b"tag 5 twice, behind tag 0", &[0, 5, 5], 2, 0, 0, 0);
     write(b"tag 0, room for 4 tags", &[0, 1, 2, 3, 4], 2, 0, 1, 0);
     write(b"tag 0", &[0, 1, 2], 2, 0, 0, 0);
-    write(b"5 tags, room for 4", &[1, 2, 3, 4, 5], 2, 0, 0, 0);
+    write(
+        b"5 tags, room for 4, group 1 not served",
+        &[1, 2, 3, 4, 9],
+        2,
+        0,
+        0,
+        0,
+    );
 }
 
-// 33 tags in group 1, and a group 0 that seed 0 does not serve: 17 comes before 10, 10 before 7, 9 before 10, and 10 before 18. With one
+// 33 tags in group 1, and a group 0 that seed 0 does not serve: 17 comes before 10, 10 before 7, 9 and 2 before 10, and 10 before 18. With one
 // tag less, 7 at group 0, and 18 at each group.
 fn sizes() {
     let tags = [
@@ -218,6 +225,7 @@ fn sizes() {
     );
     plan(b"group 0 without a seed", &tags[1..35], 2, 1);
     write(b"33 tags in group 1, room for 4", &tags[1..], 2, 0, 0, 0);
+    write_large(b"seed 65536, 33 tags in group 1", &tags[1..], 2, 0, 65536);
     write_large(b"33 tags in group 1", &tags[1..], 2, 0, 0);
     write_large(b"neither served", &tags[1..35], 2, 0, 0);
     write_large(b"group 1 not served", &tags[1..35], 2, 1, 0);

@@ -64,8 +64,8 @@ fn plans(output: &mut Output) {
         ("plan, tag 2 after tag 3", DESCENDING),
         ("plan, a list with tag 0", WITH_TAG_0),
         (
-            "plan, a seed above 0 with L = 1",
-            b"    2    1\n         1\n         2\n         3\n",
+            "plan, seeds 1 and 2 with L = 2",
+            b"    2    2\n         1\n         3\n         4\n         9\n        12\n",
         ),
     ];
     for (name, text) in texts {

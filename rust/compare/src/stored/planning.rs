@@ -28,7 +28,8 @@ pub fn write(output: &mut Output) {
     planned(output, "group 0 without a seed", &large[..34], 2, 1);
     let name = "33 tags in group 1, room for 4";
     written(output, name, &large, &plan(2, &[0, 0, 0]), 77);
-    let cases: [(&str, &[u32], u32, [u32; 2]); 5] = [
+    let cases: [(&str, &[u32], u32, [u32; 2]); 6] = [
+        ("seed 65536, 33 tags in group 1", &large, 2, [0, 65_536]),
         ("33 tags in group 1", &large, 2, [0, 0]),
         ("neither served", &large[..34], 2, [0, 0]),
         ("group 1 not served", &large[..34], 2, [1, 0]),
@@ -149,6 +150,11 @@ fn small(many: &[u32]) -> [(&'static str, &[u32], u32, [u32; 3]); 28] {
         ("tag 5 twice, behind tag 0", &[0, 5, 5], 2, [0, 0, 0]),
         ("tag 0, room for 4 tags", &[0, 1, 2, 3, 4], 2, [0, 1, 0]),
         ("tag 0", &[0, 1, 2], 2, [0, 0, 0]),
-        ("5 tags, room for 4", &[1, 2, 3, 4, 5], 2, [0, 0, 0]),
+        (
+            "5 tags, room for 4, group 1 not served",
+            &[1, 2, 3, 4, 9],
+            2,
+            [0, 0, 0],
+        ),
     ]
 }
