@@ -37,13 +37,23 @@ module _ (tags : List ℕ) (groups limit : ℕ) where
   unfolding buildingOf
   building-unplanned room e = followed-refused _ e
 
-  -- and behind a planning that yields a plan, 9 decides.
+  -- and behind a planning that yields a plan it is writing,
+  pub building-as-written : (room : ℕ) {planned : ℕ} → planningOf tags groups limit ≡ answered planned
+      → buildingOf tags groups limit room ≡ writingOf tags (planAfter tags groups limit) room
+  unfolding buildingOf
+  building-as-written room e = followed-answered _ e
+
+  pub buffer-as-written : (before : List ℕ) {planned : ℕ} → planningOf tags groups limit ≡ answered planned
+      → bufferAfter tags groups limit before ≡ bufferWritten tags (planAfter tags groups limit) before
+  unfolding bufferAfter
+  buffer-as-written before e = left-answered _ _ e
+
+  -- where 9 decides.
   pub building-planned : (room : ℕ) {planned : ℕ} → planningOf tags groups limit ≡ answered planned
       → buildingOf tags groups limit room ≡ inOrder (roomCheck groups tags room ∷ []) (answered (imageLength groups (length tags)))
-  unfolding buildingOf
   building-planned room e =
       let (passes, every, is) = planning-says tags groups limit e in
-      followed-answered _ e ∙ rw (plan-yielded tags groups limit e) (writing-yielded tags groups limit passes every room)
+      building-as-written room e ∙ rw (plan-yielded tags groups limit e) (writing-yielded tags groups limit passes every room)
 
   -- "Where both 9 and 10 or 7 would be due, planning's is met first": 8, 4, 5, 6, 17, 10, 7, 9.
   pub building-in-order : (room : ℕ) → buildingOf tags groups limit room
@@ -111,20 +121,20 @@ module _ (tags : List ℕ) (groups limit : ℕ) where
 -- The buffer: the image under the seeds taken, at the beginning of a buffer that building answers for.
 pub buffer-after : (tags : List ℕ) (groups limit : ℕ) (before : List ℕ)
     → bufferAfter tags groups limit before ≡ written (buildingOf tags groups limit (length before)) (imageOf groups tags limit) before
-unfolding bufferAfter buildingOf bufferWritten written
+unfolding bufferAfter bufferWritten written
 buffer-after tags groups limit before = go (planningOf tags groups limit) refl
   where
     go : (o : Outcome ℕ) → planningOf tags groups limit ≡ o
         → bufferAfter tags groups limit before ≡ written (buildingOf tags groups limit (length before)) (imageOf groups tags limit) before
     go (answered planned) e =
         let (passes, every, is) = planning-says tags groups limit e in
-        left-answered _ _ e
+        buffer-as-written tags groups limit before e
         ∙ sym (rw (
-          followed-answered (λ (planned : ℕ). writingOf tags (planAfter tags groups limit) (length before)) e,
+          building-as-written tags groups limit (length before) e,
           plan-yielded tags groups limit e,
           image-yielded tags groups limit passes every,
         ))
-    go (refused number place) e = left-refused _ _ e ∙ sym (left-refused _ _ (followed-refused _ e))
+    go (refused number place) e = left-refused _ _ e ∙ sym (left-refused _ _ (building-unplanned tags groups limit (length before) e))
 
 -- A refusal leaves the buffer as it was; otherwise the image stands at its beginning.
 module _ (tags : List ℕ) (groups limit : ℕ) (before : List ℕ) where

@@ -11,7 +11,7 @@ use Rattle.hash.specs.FormulaLaws.{group-below}
 use Rattle.hash.specs.Formula.{groupOf}
 use Rattle.image.specs.SheetLaws.{bytes-agree}
 use Rattle.numbering.specs.Number.{numberOf, tagNumbered}
-use Rattle.numbering.specs.Plan.{planOf, plannedGroups, plannedSeed}
+use Rattle.numbering.specs.Plan.{planOf, plannedGroups, plannedSeed, noPlan}
 use Rattle.numbering.specs.Writing.{sheetOf, choicesUnder, imageUnder}
 
 module _ (groups : ℕ) (seed : ℕ → ℕ) where
@@ -34,6 +34,11 @@ module _ (groups : ℕ) (seed : ℕ → ℕ) where
         upTo-length groups seed,
         length-replicate {A = ℕ} (groupsMax - groups) 0,
       )
+
+-- The plan of a refused planning has no groups.
+pub no-plan-groups : plannedGroups noPlan ≡ 0
+unfolding plannedGroups
+no-plan-groups = refl
 
 -- The tag with a number, by numberings that agree.
 numbered-agree : (f h : ℕ → ℕ) → ((t : ℕ) → f t ≡ h t) → (tags : List ℕ) (j : ℕ) → tagNumbered f tags j ≡ tagNumbered h tags j

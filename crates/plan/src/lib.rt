@@ -41,17 +41,13 @@ pub fn plan_groups(
 }
 
 // States a plan: B, and then the seeds.
-pub fn state_plan(
-    groups: u32,
-    seeds: &[u32; refusal::GROUP_CELLS],
-    plan: &mut [u32; refusal::PLAN_CELLS],
-)
-    requires { ⌜ length (now plan) ≡ suc groupsMax ⌝ }
+pub fn state_plan(groups: u32, seeds: &[u32], plan: &mut [u32; refusal::PLAN_CELLS])
+    requires { ⌜ (length (now seeds) ≡ groupsMax) × (length (now plan) ≡ suc groupsMax) ⌝ }
     ensures cells { λ _. ⌜ now (plan .exit) ≡ groups ∷ now (seeds .entry) ⌝ }
 {
     plan[0] = groups;
     let mut g = 0;
-    while g < refusal::GROUP_CELLS {
+    while g < seeds.len() {
         plan[1 + g] = seeds[g];
         g += 1;
     }

@@ -1,5 +1,5 @@
--- `plan::worked::plan_of_one_and_three` meets its contract: by the promise of `plan_groups` the cells have what the definition
--- computes to. Assumes nothing.
+-- `plan::worked::seed_of_one_and_three` meets its contract: by the promise of `plan_groups` the first cell has what the
+-- definition computes to. Assumes nothing.
 use borrow.Author.Needs.{needs}
 use mathlib.Core.Path.{_≡_, refl, _∙_, ap}
 use mathlib.Core.List.{List, [], _∷_}
@@ -13,16 +13,14 @@ use Rattle.hash.specs.Formula.{product, highPart, hashed, multiplier, placeOf}
 use Rattle.lists.specs.Occurs.{occurs}
 use Rattle.filling.specs.Filling.{placeBy}
 use Rattle.filling.specs.Least.{beginning, leastFrom, least, feasible}
-use Rattle.filling.specs.Word.{choiceNumber, wordOf}
-use Rattle.group.specs.Group.{bothPlaces, candidates, leastSeed, taken}
+use Rattle.group.specs.Group.{bothPlaces, candidates, leastSeed}
 use Rattle.group.specs.Ascending.{Ascending}
 use Rattle.group.specs.Unwired.{FirstWired}
-use Rattle.group.specs.Placing.{placementOf}
 use Rattle.numbering.specs.Parts.{partStart, partOf}
-use Rattle.plan.specs.Plan.{unseeded, partSeed, partWord, cellsPlanned, Plannable}
-use Rattle.plan.specs.PlanLaws.{planned-at}
-use Rattle.plan.proofs.worked.plan_of_one_and_three.Statement.{statement}
-use Rattle.plan.proofs.worked.plan_of_one_and_three.Tie as tie
+use Rattle.lists.specs.UpTo.{upTo}
+use Rattle.plan.specs.Seeds.{unseeded, partSeed, seedsFound, Plannable}
+use Rattle.plan.proofs.worked.seed_of_one_and_three.Statement.{statement}
+use Rattle.plan.proofs.worked.seed_of_one_and_three.Tie as tie
 
 -- The tags and where their part ends.
 abbrev tags : List ℕ
@@ -55,8 +53,7 @@ plannable = record {
 -- `unfolding computed` opens every definition that these compute through.
 computed : ℕ
 unfolding orElse first metAt isSome product highPart hashed multiplier placeOf occurs placeBy beginning leastFrom
-    least feasible choiceNumber wordOf bothPlaces candidates leastSeed taken placementOf partStart partOf unseeded
-    partSeed partWord
+    least feasible bothPlaces candidates leastSeed partStart partOf unseeded partSeed
 computed = 0
 
 no-group-without : first (unseeded tags ends 2) 1 ≡ none
@@ -67,47 +64,24 @@ seed-is : partSeed tags ends 2 0 ≡ 1
 unfolding computed
 seed-is = refl
 
-word-is : partWord tags ends 2 0 ≡ 2
-unfolding computed
-word-is = refl
-
--- The first cell of the planned ones, where no group is without a seed.
-first-cell : (number : ℕ → ℕ) (before : List ℕ) {cells : List ℕ} {o : Option ℕ} → o ≡ first (unseeded tags ends 2) 1
-    → cells ≡ cellsPlanned number (Option·getD o 1) before → getD cells 0 0 ≡ number 0
-first-cell number before told planned =
-    ap (λ (l : List ℕ). getD l 0 0) planned
-    ∙ rw (told, no-group-without) (planned-at number 1 before 0 (omega arith))
-
--- What the promise says of the two cells.
-promised : (before : List ℕ) {o : Option ℕ} {seeds words : List ℕ}
-    → (o ≡ first (unseeded tags ends 2) 1)
-    × ((seeds ≡ cellsPlanned (partSeed tags ends 2) (Option·getD o 1) before)
-    × (words ≡ cellsPlanned (partWord tags ends 2) (Option·getD o 1) before))
-    → (getD seeds 0 0 ≡ 1) × (getD words 0 0 ≡ 2)
-promised before (told, (seeds, words)) =
-    (first-cell (partSeed tags ends 2) before told seeds ∙ seed-is, first-cell (partWord tags ends 2) before told words ∙ word-is)
+-- What the promise says of the first cell, since no group is without a seed.
+first-cell : (before : List ℕ) {cells : List ℕ} {o : Option ℕ} → o ≡ first (unseeded tags ends 2) 1
+    → cells ≡ seedsFound tags ends 2 (Option·getD o 1) before → getD cells 0 0 ≡ 1
+unfolding seedsFound upTo
+first-cell before told found = ap (λ (l : List ℕ). getD l 0 0) found ∙ rw (told, no-group-without) seed-is
 
 plan-groups-requires : tie.Need-plan-groups-requires
-plan-groups-requires c κs = (plannable, omega arith, refl, refl)
-
-mul-result : tie.Need-mul-result
-mul-result c = omega (arith, promised (replicate groupsMax 0) (c .plan-groups .ensures))
-
-add-result : tie.Need-add-result
-add-result c = omega (arith, promised (replicate groupsMax 0) (c .plan-groups .ensures))
+plan-groups-requires c κs = (plannable, omega arith, refl)
 
 returns : tie.Need-returns
-returns c = omega (arith, promised (replicate groupsMax 0) (c .plan-groups .ensures))
+returns c = first-cell (replicate groupsMax 0) (c .plan-groups .ensures .0) (c .plan-groups .ensures .1)
 
-pub plan-of-one-and-three-spec : {M : Type 1} → statement M
-plan-of-one-and-three-spec =
+pub seed-of-one-and-three-spec : {M : Type 1} → statement M
+seed-of-one-and-three-spec =
     tie.close
     (tie.spec
     (λ c. search needs)  -- slice-aggregate-plan-groups
     (λ c. search needs)  -- slice-aggregate-plan-groups-2
     plan-groups-requires
     (λ c. search needs)  -- array-read-result
-    mul-result
-    (λ c. search needs)  -- array-read-result-2
-    add-result
     returns)
