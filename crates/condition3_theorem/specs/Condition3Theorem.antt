@@ -250,12 +250,12 @@ module _ {tags : List ℕ} {groups : ℕ} {seed : ℕ → ℕ} (words : (t : ℕ
 -- The seeds of a plan that writing's checks accept, and those that planning takes.
 seeded-ready : {tags plan : List ℕ} {room : ℕ} → Ready tags plan room → Seeded tags (plannedGroups plan) (plannedSeed plan)
 seeded-ready r = record {
-  groups-legal = r .groups-legal;
-  seeds-legal = r .seeds-legal;
-  count-legal = r .count-legal;
-  ascending = r .ascending;
-  wired = r .wired;
-  groups-small = r .groups-small;
+  groups-legal = r .fit .groups-legal;
+  seeds-legal = r .fit .seeds-legal;
+  count-legal = r .fit .count-legal;
+  ascending = r .fit .ascending;
+  wired = r .fit .wired;
+  groups-small = r .fit .groups-small;
   fill = ready-fill r;
 }
 

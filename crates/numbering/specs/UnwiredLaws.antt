@@ -31,8 +31,8 @@ planning-wired tags groups limit e =
 
 pub writing-wired : (tags plan : List ℕ) (room : ℕ) {size : ℕ} → writingOf tags plan room ≡ answered size → occurs unwired tags ≡ false
 writing-wired tags plan room e =
-    let ready = ready-of-pass tags plan room ((writing-says tags plan room e) .0) in
-    wired-absent tags (ready .ascending) (ready .wired)
+    let fit = ready-of-pass tags plan room ((writing-says tags plan room e) .0) .fit in
+    wired-absent tags (fit .ascending) (fit .wired)
 
 pub building-wired : (tags : List ℕ) (groups limit room : ℕ) {size : ℕ} → buildingOf tags groups limit room ≡ answered size
     → occurs unwired tags ≡ false

@@ -15,7 +15,7 @@ use Rattle.refusal.specs.OutcomeLaws.{left-answered, left-refused}
 use Rattle.lists.specs.First.{first}
 use Rattle.lists.specs.FirstLaws.{first-none, first-out}
 use Rattle.refusal.specs.Checks.{Check, met, inOrder, Pass}
-use Rattle.refusal.specs.ChecksLaws.{_then_, false-of-met, metBy, passed, checksBefore, checksBehind, met-first}
+use Rattle.refusal.specs.ChecksLaws.{_then_, false-of-met, metBy, passed, checksBefore, pass-before, checksBehind, met-first}
 use Rattle.refusal.specs.ChecksLaws.{inOrder-pass, inOrder-answered, inOrder-append}
 use Rattle.filling.specs.Least.{feasible}
 use Rattle.filling.specs.LeastLaws.{fills-feasible, feasible-fills}
@@ -41,8 +41,8 @@ pub image-length : (groups : ℕ) (tags : List ℕ) (seed : ℕ → ℕ) → len
 unfolding imageUnder sheetOf
 image-length groups tags seed = bytes-length (sheetOf groups tags seed (choicesUnder groups tags seed))
 
--- What writing's checks ask of a list, a plan and a buffer of `room` bytes.
-pub record Ready (tags plan : List ℕ) (room : ℕ) : Type 0 where
+-- What writing's checks before 18 ask of a list, a plan and a buffer of `room` bytes;
+pub record Fit (tags plan : List ℕ) (room : ℕ) : Type 0 where
   pub groups-legal : (1 ≤ plannedGroups plan) × (plannedGroups plan ≤ groupsMax)
   pub seeds-legal : (g : ℕ) → g < plannedGroups plan → plannedSeed plan g ≤ seedMax
   pub count-legal : length tags ≤ tagsMax
@@ -50,6 +50,10 @@ pub record Ready (tags plan : List ℕ) (room : ℕ) : Type 0 where
   pub wired : FirstWired tags
   pub fits : imageLength (plannedGroups plan) (length tags) ≤ room
   pub groups-small : (g : ℕ) → g < plannedGroups plan → length (members (plannedGroups plan) g tags) ≤ groupMax
+
+-- and with 18 all of them.
+pub record Ready (tags plan : List ℕ) (room : ℕ) : Type 0 where
+  pub fit : Fit tags plan room
   pub filled : (g : ℕ) → g < plannedGroups plan → feasible (groupUnder (members (plannedGroups plan) g tags) (plannedSeed plan g)) ≡ true
 
 module _ (tags plan : List ℕ) (room : ℕ) where
@@ -72,18 +76,26 @@ module _ (tags plan : List ℕ) (room : ℕ) where
   unfolding writingOf
   writing-says e = let (passes, answer) = inOrder-answered checks (answered (imageLength (plannedGroups plan) (length tags))) e in (passes, cc)
 
+  pub fit-of-pass : Pass (checksBefore 18 checks) → Fit tags plan room
+  unfolding writingChecks
+  fit-of-pass h =
+      let check = passed (checksBefore 18 checks) h in
+      record {
+        groups-legal = inside 1 groupsMax (plannedGroups plan) (false-of-met _ (check 8));
+        seeds-legal = λ g lt. ltb-false seedMax (plannedSeed plan g) (first-none (seedAbove plan) (plannedGroups plan) (check 2) g lt);
+        count-legal = ltb-false tagsMax (length tags) (false-of-met _ (check 5));
+        ascending = ascending-of-check tags (check 6);
+        wired = wired-of-check tags (check 17);
+        fits = ltb-false room (imageLength (plannedGroups plan) (length tags)) (false-of-met _ (check 9));
+        groups-small = λ g lt.
+            ltb-false groupMax (length (members (plannedGroups plan) g tags))
+            (first-none (tooLarge (plannedGroups plan) tags) (plannedGroups plan) (check 10) g lt);
+      }
+
   pub ready-of-pass : Pass checks → Ready tags plan room
   unfolding writingChecks
   ready-of-pass h = record {
-    groups-legal = inside 1 groupsMax (plannedGroups plan) (false-of-met _ (passed checks h 8));
-    seeds-legal = λ g lt. ltb-false seedMax (plannedSeed plan g) (first-none (seedAbove plan) (plannedGroups plan) (passed checks h 2) g lt);
-    count-legal = ltb-false tagsMax (length tags) (false-of-met _ (passed checks h 5));
-    ascending = ascending-of-check tags (passed checks h 6);
-    wired = wired-of-check tags (passed checks h 17);
-    fits = ltb-false room (imageLength (plannedGroups plan) (length tags)) (false-of-met _ (passed checks h 9));
-    groups-small = λ g lt.
-        ltb-false groupMax (length (members (plannedGroups plan) g tags))
-        (first-none (tooLarge (plannedGroups plan) tags) (plannedGroups plan) (passed checks h 10) g lt);
+    fit = fit-of-pass (pass-before checks h 18);
     filled = λ g lt. not-false _ (first-none (unfilled tags plan) (plannedGroups plan) (passed checks h 18) g lt);
   }
 
@@ -92,8 +104,8 @@ pub ready-fill : {tags plan : List ℕ} {room : ℕ} → Ready tags plan room
     → AllFill (plannedGroups plan) tags (plannedSeed plan) (choicesUnder (plannedGroups plan) tags (plannedSeed plan))
 unfolding choicesUnder
 ready-fill {tags} {plan} r = record {
-  some-group = r .groups-legal .0;
-  differ = ascending-distinct tags (r .ascending);
+  some-group = r .fit .groups-legal .0;
+  differ = ascending-distinct tags (r .fit .ascending);
   fills = λ g lt.
       let own = members (plannedGroups plan) g tags in
       let (cs, f) = feasible-fills (groupUnder own (plannedSeed plan g)) (r .filled g lt) in
