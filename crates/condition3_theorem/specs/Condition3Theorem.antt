@@ -6,7 +6,7 @@ use mathlib.Core.List.{List}
 use mathlib.Core.Option.{Option, none, some}
 use Prim.Native.Nat.{ℕ, _+_, _-_, _*_, _≤_, _<_}
 use native.Mathlib.Omega.{arith}
-use lib.ListN.{length, take, drop, getD-replicate}
+use lib.ListN.{length, getD, take, drop}
 use lib.Seq.{take-at}
 use borrow.Author.Tests.{ltb-false, le-ltb, not-true}
 use Rattle.refusal.specs.Limits.{tagEnd, tagsMax, groupsMax, groupMax, limitMax, seedMax, unwired}
@@ -17,6 +17,7 @@ use Rattle.lists.specs.FirstLaws.{first-some, first-none, first-found, first-ou
 use Rattle.refusal.specs.Checks.{Check, met, Pass}
 use Rattle.refusal.specs.ChecksLaws.{_then_, met-false, false-of-met, passed, inOrder-pass}
 use Rattle.lists.specs.Occurs.{occurs}
+use Rattle.lists.specs.OccursLaws.{occurs-getD}
 use Rattle.group.specs.Group.{leastSeed, taken}
 use Rattle.group.specs.GroupLaws.{LeastSeed, leastSeed-none, taken-least}
 use Rattle.group.specs.Ascending.{Ascending}
@@ -322,6 +323,10 @@ module _ (tags plan : List ℕ) (words : (t : ℕ) → occurs t tags ≡ true �
   pub written-checked : (room : ℕ) {size : ℕ} → writingOf tags plan room ≡ answered size → checkingOf (plannedImage tags plan) ≡ answered 0
   unfolding plannedImage
   written-checked room e = seeded-checked words (seeded-ready (ready-of-pass tags plan room ((writing-says tags plan room e) .0)))
+
+-- The tags of a list of 32-bit numbers are tags.
+pub tags-of-words : (tags : List ℕ) → ((i : ℕ) → getD tags i 0 < tagEnd) → (t : ℕ) → occurs t tags ≡ true → t < tagEnd
+tags-of-words tags words t m = let at = occurs-getD tags t m in rw (at .value) at (words (at .index))
 
 -- The theorem: "Whatever list, group count, seed limit and buffer a site hands to building, all of this holds."
 pub condition3 : (tags : List ℕ) (groups limit : ℕ) (before : List ℕ) → ((t : ℕ) → occurs t tags ≡ true → t < tagEnd)

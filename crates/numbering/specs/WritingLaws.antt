@@ -25,8 +25,8 @@ use Rattle.group.specs.Ascending.{Ascending}
 use Rattle.group.specs.AscendingLaws.{ascending-of-check, ascending-distinct}
 use Rattle.group.specs.Unwired.{FirstWired}
 use Rattle.group.specs.UnwiredLaws.{wired-of-check}
-use Rattle.image.specs.Sheet.{imageLength}
-use Rattle.image.specs.SheetLaws.{bytes-length}
+use Rattle.image.specs.Sheet.{imageLength, longestImage}
+use Rattle.image.specs.SheetLaws.{bytes-length, image-longest}
 use Rattle.numbering.specs.Members.{members}
 use Rattle.numbering.specs.NumberLaws.{AllFill}
 use Rattle.numbering.specs.Plan.{planOf, plannedGroups, plannedSeed}
@@ -98,6 +98,13 @@ module _ (tags plan : List ℕ) (room : ℕ) where
     fit = fit-of-pass (pass-before checks h 18);
     filled = λ g lt. not-false _ (first-none (unfilled tags plan) (plannedGroups plan) (passed checks h 18) g lt);
   }
+
+-- The length that writing answers is that of an image of at most 4,096 tags in at most 512 groups.
+pub written-most : (tags plan : List ℕ) (room : ℕ) {size : ℕ} → writingOf tags plan room ≡ answered size → size ≤ longestImage
+written-most tags plan room e =
+    let (passes, is) = writing-says tags plan room e in
+    let fit = ready-of-pass tags plan room passes .fit in
+    rw (← is) (image-longest (plannedGroups plan) (length tags) (fit .groups-legal .1) (fit .count-legal))
 
 -- Then the sequences taken fill.
 pub ready-fill : {tags plan : List ℕ} {room : ℕ} → Ready tags plan room

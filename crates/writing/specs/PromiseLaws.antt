@@ -1,21 +1,14 @@
 -- What writing promises follows from its two equations. Assumes nothing.
 use mathlib.Core.Path.{_≡_, sym, _∙_}
-use mathlib.Core.Bool.{true}
 use mathlib.Core.List.{List}
 use Prim.Native.Nat.{ℕ, _<_}
 use lib.ListN.{length, getD}
 use Rattle.refusal.specs.Limits.{tagEnd}
 use Rattle.refusal.specs.Outcome.{Outcome, refused}
-use Rattle.lists.specs.Occurs.{occurs}
-use Rattle.lists.specs.OccursLaws.{occurs-getD}
 use Rattle.numbering.specs.Writing.{writingOf, bufferWritten}
 use Rattle.numbering.specs.WritingLaws.{writing-kept}
 use Rattle.condition3.specs.Condition3.{WritingCondition3}
-use Rattle.condition3_theorem.specs.Condition3Theorem.{writing-condition3}
-
--- The tags of a list of 32-bit numbers are tags.
-pub tags-of-words : (tags : List ℕ) → ((i : ℕ) → getD tags i 0 < tagEnd) → (t : ℕ) → occurs t tags ≡ true → t < tagEnd
-tags-of-words tags words t m = let at = occurs-getD tags t m in rw (at .value) at (words (at .index))
+use Rattle.condition3_theorem.specs.Condition3Theorem.{tags-of-words, writing-condition3}
 
 -- The answer, the buffer, and writing's part of Condition 3: for an answer `outcome` that left `after`.
 abbrev pub Promised : List ℕ → List ℕ → List ℕ → Outcome ℕ → List ℕ → Type 0
