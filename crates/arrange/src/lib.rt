@@ -35,12 +35,7 @@ pub fn arrange(
         let Choices::Word(word) = word::word_under(&ordered[start..end], seed) else {
             return First::At(g);
         };
-        arrange_group(
-            &ordered[start..end],
-            seed,
-            word,
-            &mut slots[start..end],
-        );
+        arrange_group(&ordered[start..end], seed, word, &mut slots[start..end]);
         start = end;
         g += 1;
     }

@@ -56,8 +56,10 @@ module _ (text : List ℕ) where
   unfolding planningFromText planFromText
   plan-read {outcome} {plan} e (answer, (left, condition3)) = (
     answer ∙ sym (followed-answered _ e),
-    (left ∙ sym (left-answered _ _ e),
-    of-listed (λ listed. PlanningCondition3 (listed .tags) (listed .groups) (listed .limit) outcome plan) e condition3),
+    (
+      left ∙ sym (left-answered _ _ e),
+      of-listed (λ listed. PlanningCondition3 (listed .tags) (listed .groups) (listed .limit) outcome plan) e condition3,
+    ),
   )
 
   module _ (before : List ℕ) where
@@ -97,10 +99,12 @@ module _ (text : List ℕ) where
     promised-read {outcome} {plan} {after} {listed} e (answer, (yielded, (bytes, condition3))) =
         let same : plan ≡ planFromText text = yielded ∙ sym (left-answered _ _ e) in (
           answer ∙ sym (followed-answered _ e),
-          (bytes ∙ sym (left-answered _ _ e),
-          of-listed
-              (λ listed. Condition3 (listed .tags) (listed .groups) (listed .limit) (length before) (planFromText text) outcome after) e
-              (rw same at condition3)),
+          (
+            bytes ∙ sym (left-answered _ _ e),
+            of-listed
+                (λ listed. Condition3 (listed .tags) (listed .groups) (listed .limit) (length before) (planFromText text) outcome after) e
+                (rw same at condition3),
+          ),
         )
 
 -- What an accepted reading leaves in cells for as many tags as a list may have: the list's tags stand at their beginning, as many as it

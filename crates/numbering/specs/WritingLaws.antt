@@ -151,8 +151,11 @@ module _ (tags : List ℕ) (groups limit : ℕ) (passes : Pass (earlierChecks ta
 
   all-filled : first (unfilled tags yielded) groups ≡ none
   all-filled = first-out (unfilled tags yielded) groups (λ g lt.
-      rw (plan-groups groups (seedTaken groups tags limit), plan-seed groups (seedTaken groups tags limit) g lt,
-        fills-feasible (groupUnder (members groups g tags) (seedTaken groups tags limit g)) _ ((least g lt) .fills)) refl)
+      rw (
+        plan-groups groups (seedTaken groups tags limit),
+        plan-seed groups (seedTaken groups tags limit) g lt,
+        fills-feasible (groupUnder (members groups g tags) (seedTaken groups tags limit g)) _ ((least g lt) .fills),
+      ) refl)
 
   pub writing-yielded : (room : ℕ)
       → writingOf tags yielded room ≡ inOrder (roomCheck groups tags room ∷ []) (answered (imageLength groups (length tags)))

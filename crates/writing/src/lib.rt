@@ -26,11 +26,7 @@ pub enum WriteAnswer {
 }
 
 // The operation "writing", for any list, any plan and any buffer. A plan is B and then 512 seeds, of which the first B are looked at.
-pub fn write_list(
-    tags: &[u32],
-    plan: &[u32; refusal::PLAN_CELLS],
-    buffer: &mut [u8],
-) -> WriteAnswer
+pub fn write_list(tags: &[u32], plan: &[u32; refusal::PLAN_CELLS], buffer: &mut [u8]) -> WriteAnswer
     ensures answer { λ r. ⌜ writeOutcome r ≡ writingOf (now (tags .entry)) (now (plan .entry)) (length (now (buffer .entry))) ⌝ }
     ensures bytes { λ r. ⌜ now (buffer .exit) ≡ bufferWritten (now (tags .entry)) (now (plan .entry)) (now (buffer .entry)) ⌝ }
     ensures condition3 { λ r. ⌜ WritingCondition3 (now (tags .entry)) (now (plan .entry)) (writeOutcome r) (now (buffer .exit)) ⌝ }
@@ -111,14 +107,7 @@ fn write_ordered(
     if let First::At(g) = arrange::arrange(ordered, ends, seeds, groups as usize, &mut slots) {
         return refuse(Reason::SeedDoesNotServe, g);
     }
-    write::write_lines(
-        ends,
-        seeds,
-        &slots,
-        groups as usize,
-        tags.len(),
-        buffer,
-    );
+    write::write_lines(ends, seeds, &slots, groups as usize, tags.len(), buffer);
     WriteAnswer::Written(image_length(groups, tags.len()))
 }
 

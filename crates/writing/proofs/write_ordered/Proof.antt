@@ -91,7 +91,7 @@ returns-2 c =
     let a = start .args in
     let outcome = size-answered (start .pre) (every told) zeros in
     let stated = ap (λ (l : List ℕ). bytesOf (statedSheet (a .ends .now) (seeds (start .pre)) l (a .groups) (length (a .tags .now)))
-        ++ drop (imageLength (a .groups) (length (a .tags .now))) (a .buffer .now)) (slots-are told) in (
+    ++ drop (imageLength (a .groups) (length (a .tags .now))) (a .buffer .now)) (slots-are told) in (
       ap answered (c .image-length .ensures) ∙ sym outcome,
       written .write-lines .ensures ∙ stated ∙ written-bytes (start .pre) (every told) zeros (a .buffer .now)
           ∙ sym (writing-written (a .tags .now) (a .plan .now) (a .buffer .now) outcome),
