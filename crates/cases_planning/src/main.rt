@@ -175,8 +175,8 @@ fn refused(many: &[u32]) {
     );
 }
 
-// 33 tags in group 1, and a group 0 that seed 0 does not serve: 17 comes before 10, 10 before 7, 9 and 2 before 10, and 10 before 18. With one
-// tag less, 7 at group 0, and 18 at each group.
+// 33 tags in group 1, and a group 0 that seed 0 does not serve: 17 comes before 10, 10 before 7, 9 and 2 before 10, and 10 before 18.
+// With one tag less, 7 at group 0, and 18 at each group.
 fn sizes() {
     let tags = [
         0u32,

@@ -169,7 +169,8 @@ module _ {tags : List ℕ} {groups limit room : ℕ} {plan : List ℕ} {answer :
       not-without g low = let has = every g (low .group) in low .without (has .0) (has .1) (has .2 .0) (has .2 .1)
 
       pub planned-otherwise : (plannedGroups plan ≡ groups)
-          × ((g : ℕ) → g < groups → (plannedSeed plan g < limit) × ((choices : List Bool) × Places tags groups g (plannedSeed plan g) choices))
+          × ((g : ℕ) → g < groups
+          → (plannedSeed plan g < limit) × ((choices : List Bool) × Places tags groups g (plannedSeed plan g) choices))
       planned-otherwise =
           let serves = c .seeds .otherwise-serves checks not-without in
           (serves .groups-are, λ g lt. (serves .below-limit g lt, ((serves .serving) g, serves .served g lt)))

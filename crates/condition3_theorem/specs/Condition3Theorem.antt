@@ -14,7 +14,7 @@ use Rattle.refusal.specs.LimitsLaws.{outside-not, inside}
 use Rattle.refusal.specs.Outcome.{Outcome, answered, refused}
 use Rattle.lists.specs.First.{first, isSome}
 use Rattle.lists.specs.FirstLaws.{first-some, first-none, first-found, first-out, none-of-isSome}
-use Rattle.refusal.specs.Checks.{Check, met, Pass}
+use Rattle.refusal.specs.Checks.{Check, Pass}
 use Rattle.refusal.specs.ChecksLaws.{_then_, met-false, false-of-met, passed, inOrder-pass}
 use Rattle.lists.specs.Occurs.{occurs}
 use Rattle.lists.specs.OccursLaws.{occurs-getD}
@@ -34,7 +34,7 @@ use Rattle.numbering.specs.Members.{members}
 use Rattle.numbering.specs.MembersLaws.{start-all, start-before}
 use Rattle.numbering.specs.Number.{numberOf, tagNumbered}
 use Rattle.numbering.specs.NumberLaws.{number-below, number-apart, number-onto, AllFill, all-placed, tagNumbered-is}
-use Rattle.numbering.specs.Plan.{planOf, plannedGroups, plannedSeed, noPlan}
+use Rattle.numbering.specs.Plan.{plannedGroups, plannedSeed}
 use Rattle.numbering.specs.PlanLaws.{plan-groups, plan-seed, no-plan-groups}
 use Rattle.numbering.specs.Planning.{tooLarge, seedless, earlierChecks, planningOf, seedTaken, planAfter}
 use Rattle.numbering.specs.PlanningLaws.{planning-seedless, planning-answered, planning-says, planning-seven, plan-yielded, plan-refused}
@@ -42,7 +42,7 @@ use Rattle.numbering.specs.PlanningLaws.{seed-least}
 use Rattle.numbering.specs.Writing.{sheetOf, choicesUnder, imageUnder, plannedImage, writingOf, bufferWritten}
 use Rattle.numbering.specs.WritingLaws.{image-length, Ready, ready-of-pass, ready-fill, writing-says, writing-written}
 use Rattle.numbering.specs.Building.{choicesTaken, imageOf, buildingOf, bufferAfter}
-use Rattle.numbering.specs.BuildingLaws.{building-unplanned, building-seedless, building-answered, building-short, building-seven}
+use Rattle.numbering.specs.BuildingLaws.{building-seedless, building-answered, building-short, building-seven}
 use Rattle.numbering.specs.BuildingLaws.{answered-says, buffer-as-written, building-as-written, buffer-written}
 use Rattle.condition3_theorem.specs.BuiltLaws.{Reads, InRange, reads-back, built-many, built-sound, built-listed, built-unlisted}
 use Rattle.condition3.specs.Condition3.{NothingFills, HasSeed, LowestWithout, EarlierChecks, Serves, SeedCondition3}
@@ -310,7 +310,8 @@ module _ (tags plan : List ℕ) (words : (t : ℕ) → occurs t tags ≡ true �
       unlisted = λ t word m. rw e (unknown-unlisted words (seeded-ready r) t m);
     }
 
-  pub writing-condition3 : (before : List ℕ) → WritingCondition3 tags plan (writingOf tags plan (length before)) (bufferWritten tags plan before)
+  pub writing-condition3 : (before : List ℕ)
+      → WritingCondition3 tags plan (writingOf tags plan (length before)) (bufferWritten tags plan before)
   unfolding imageLength plannedImage
   writing-condition3 before size e =
       let (passes, is) = writing-says tags plan (length before) e in

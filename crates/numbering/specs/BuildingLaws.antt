@@ -4,28 +4,22 @@ use mathlib.Core.List.{List, [], _∷_, _++_}
 use mathlib.Core.Option.{none, some}
 use Prim.Native.Nat.{ℕ, _≤_, _<_}
 use native.Mathlib.Omega.{arith}
-use lib.Dec.{ltb}
 use lib.ListN.{length, drop}
 use borrow.Author.Tests.{ltb-false, lt-ltb, le-ltb}
 use Rattle.refusal.specs.Outcome.{Outcome, answered, refused}
 use Rattle.refusal.specs.OutcomeLaws.{followed-answered, followed-refused, left-answered, left-refused}
 use Rattle.lists.specs.First.{first}
-use Rattle.lists.specs.FirstLaws.{first-none}
 use Rattle.refusal.specs.Checks.{Check, met, inOrder, Pass}
 use Rattle.refusal.specs.ChecksLaws.{met-true, met-false, false-of-met, metBy, checksBefore, pass-split, met-alone}
 use Rattle.refusal.specs.ChecksLaws.{inOrder-pass, inOrder-append, inOrder-answered, inOrder-refused, refused-inOrder}
-use Rattle.group.specs.Ascending.{Ascending}
-use Rattle.group.specs.AscendingLaws.{ascending-distinct}
 use Rattle.image.specs.Sheet.{imageLength, longestImage}
 use Rattle.image.specs.SheetLaws.{image-longest}
-use Rattle.numbering.specs.NumberLaws.{AllFill}
-use Rattle.numbering.specs.Plan.{planOf}
-use Rattle.numbering.specs.Planning.{seedless, earlierChecks, planningChecks, planningOf, seedTaken, planAfter}
-use Rattle.numbering.specs.PlanningLaws.{planning-refused, planning-seedless, planning-answered, planning-says, planning-seven}
-use Rattle.numbering.specs.PlanningLaws.{plan-yielded, earlier-groups, earlier-count, seed-least}
-use Rattle.numbering.specs.Writing.{choicesUnder, roomCheck, writingOf, plannedImage, written, bufferWritten}
-use Rattle.numbering.specs.WritingLaws.{image-length, writing-yielded, image-yielded}
-use Rattle.numbering.specs.Building.{buildingOf, bufferAfter, choicesTaken, imageOf}
+use Rattle.numbering.specs.Planning.{seedless, earlierChecks, planningChecks, planningOf, planAfter}
+use Rattle.numbering.specs.PlanningLaws.{planning-refused, planning-seedless, planning-answered, planning-says}
+use Rattle.numbering.specs.PlanningLaws.{plan-yielded, earlier-groups, earlier-count}
+use Rattle.numbering.specs.Writing.{roomCheck, writingOf, written, bufferWritten}
+use Rattle.numbering.specs.WritingLaws.{writing-yielded, image-yielded}
+use Rattle.numbering.specs.Building.{buildingOf, bufferAfter, imageOf}
 
 module _ (tags : List ℕ) (groups limit : ℕ) where
   abbrev earlier : List Check

@@ -3,15 +3,15 @@ use mathlib.Core.Path.{_≡_, refl, _∙_}
 use mathlib.Core.Bool.{false}
 use mathlib.Core.List.{List, [], _∷_}
 use mathlib.Core.Option.{none, some}
-use Prim.Native.Nat.{ℕ, _≤_, _<_}
+use Prim.Native.Nat.{ℕ, _≤_}
 use lib.ListN.{length}
 use borrow.Author.Tests.{ltb-false, not-false}
-use Rattle.refusal.specs.Limits.{tagsMax, groupsMax, limitMax, groupMax}
+use Rattle.refusal.specs.Limits.{tagsMax, groupsMax}
 use Rattle.refusal.specs.LimitsLaws.{inside}
 use Rattle.refusal.specs.Outcome.{answered, refused}
 use Rattle.refusal.specs.OutcomeLaws.{left-answered, left-refused}
 use Rattle.lists.specs.First.{first, isSome}
-use Rattle.lists.specs.FirstLaws.{first-none, some-of-isSome}
+use Rattle.lists.specs.FirstLaws.{some-of-isSome}
 use Rattle.refusal.specs.Checks.{Check, inOrder, Pass}
 use Rattle.refusal.specs.ChecksLaws.{false-of-met, metBy, passed, checksBefore, met-first, met-alone, pass-split}
 use Rattle.refusal.specs.ChecksLaws.{inOrder-pass, inOrder-answered, inOrder-append, inOrder-refused}
@@ -19,7 +19,7 @@ use Rattle.group.specs.Group.{leastSeed}
 use Rattle.group.specs.GroupLaws.{LeastSeed, leastSeed-some}
 use Rattle.numbering.specs.Members.{members}
 use Rattle.numbering.specs.Plan.{planOf, noPlan}
-use Rattle.numbering.specs.Planning.{tooLarge, seedless, seedCheck, earlierChecks, planningChecks, planningOf, seedTaken, planAfter}
+use Rattle.numbering.specs.Planning.{seedless, seedCheck, earlierChecks, planningChecks, planningOf, seedTaken, planAfter}
 
 module _ (tags : List ℕ) (groups limit : ℕ) where
   abbrev earlier : List Check

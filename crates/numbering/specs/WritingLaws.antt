@@ -1,11 +1,10 @@
 -- The ways in which writing ends, what it leaves in the buffer, and writing behind a planning that yielded its plan. Assumes nothing.
-use mathlib.Core.Path.{_≡_, refl, sym, _∙_}
+use mathlib.Core.Path.{_≡_, refl, _∙_}
 use mathlib.Core.Bool.{true}
 use mathlib.Core.List.{List, [], _∷_, _++_}
 use mathlib.Core.Option.{none, some}
 use Prim.Native.Nat.{ℕ, _≤_, _<_}
 use native.Mathlib.Omega.{arith}
-use lib.Dec.{ltb}
 use lib.ListN.{length, drop}
 use borrow.Author.Tests.{ltb-false, le-ltb, not-false}
 use Rattle.refusal.specs.Limits.{tagsMax, groupsMax, groupMax, limitMax, seedMax}
@@ -14,7 +13,7 @@ use Rattle.refusal.specs.Outcome.{answered, refused}
 use Rattle.refusal.specs.OutcomeLaws.{left-answered, left-refused}
 use Rattle.lists.specs.First.{first}
 use Rattle.lists.specs.FirstLaws.{first-none, first-out}
-use Rattle.refusal.specs.Checks.{Check, met, inOrder, Pass}
+use Rattle.refusal.specs.Checks.{Check, inOrder, Pass}
 use Rattle.refusal.specs.ChecksLaws.{_then_, false-of-met, metBy, passed, checksBefore, pass-before, checksBehind, met-first}
 use Rattle.refusal.specs.ChecksLaws.{inOrder-pass, inOrder-answered, inOrder-append}
 use Rattle.filling.specs.Least.{feasible}
@@ -74,7 +73,9 @@ module _ (tags plan : List ℕ) (room : ℕ) where
   pub writing-says : {size : ℕ} → writingOf tags plan room ≡ answered size
       → Pass checks × (imageLength (plannedGroups plan) (length tags) ≡ size)
   unfolding writingOf
-  writing-says e = let (passes, answer) = inOrder-answered checks (answered (imageLength (plannedGroups plan) (length tags))) e in (passes, cc)
+  writing-says e =
+      let (passes, answer) = inOrder-answered checks (answered (imageLength (plannedGroups plan) (length tags))) e in
+      (passes, cc)
 
   pub fit-of-pass : Pass (checksBefore 18 checks) → Fit tags plan room
   unfolding writingChecks
@@ -147,7 +148,9 @@ module _ (tags : List ℕ) (groups limit : ℕ) (passes : Pass (earlierChecks ta
   seeds-small : first (seedAbove yielded) groups ≡ none
   seeds-small =
       first-out (seedAbove yielded) groups
-      (λ g lt. le-ltb seedMax (plannedSeed yielded g) (omega (arith, plan-seed groups (seedTaken groups tags limit) g lt, (least g lt) .below, limit-most)))
+      (λ g lt.
+      let own = plan-seed groups (seedTaken groups tags limit) g lt in
+      le-ltb seedMax (plannedSeed yielded g) (omega (arith, own, (least g lt) .below, limit-most)))
 
   all-filled : first (unfilled tags yielded) groups ≡ none
   all-filled = first-out (unfilled tags yielded) groups (λ g lt.

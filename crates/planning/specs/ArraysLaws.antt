@@ -1,8 +1,8 @@
 -- What the arrays hold once the tags are ordered and the seeds found. Assumes nothing.
 use mathlib.Core.Path.{_≡_, refl, _∙_}
-use mathlib.Core.List.{List, _∷_, _++_}
+use mathlib.Core.List.{List, _∷_}
 use mathlib.Core.Option.{none}
-use Prim.Native.Nat.{ℕ, zero, suc, _-_, _≤_, _<_}
+use Prim.Native.Nat.{ℕ, zero, suc, _-_, _≤_}
 use native.Mathlib.Omega.{arith}
 use lib.ListN.{length, drop, replicate}
 use borrow.Author.Tests.{ltb-false}
@@ -12,7 +12,6 @@ use Rattle.refusal.specs.Checks.{Pass}
 use Rattle.refusal.specs.ChecksLaws.{false-of-met, passed, checksBefore, passed-on}
 use Rattle.lists.specs.First.{first}
 use Rattle.lists.specs.FirstLaws.{first-cong}
-use Rattle.lists.specs.UpTo.{upTo}
 use Rattle.lists.specs.UpToLaws.{upTo-agree}
 use Rattle.group.specs.UnwiredLaws.{wired-absent, absent-wired}
 use Rattle.numbering.specs.Members.{members}

@@ -28,7 +28,8 @@ use Rattle.numbering.specs.Building.{buildingOf}
 use Rattle.numbering.specs.BuildingLaws.{answered-most}
 use Rattle.numbering.specs.FromText.{listFromText, planningFromText, writingFromText, buildingFromText}
 use Rattle.from_text.specs.PlaceLaws.{textLines, plan-text-place, write-text-place, from-text-place}
-use Rattle.tag_index.specs.Answer64.{answer64, outcome64, foundNumber, planAnswer, writeAnswer, buildAnswer, checkAnswer, lookupAnswer}
+use Rattle.tag_index.specs.Answer64.{answer64, outcome64, foundNumber, planAnswer, writeAnswer, buildAnswer}
+use Rattle.tag_index.specs.Answer64.{checkAnswer, lookupAnswer}
 use Rattle.tag_index.specs.PlaceLaws.{imageLines, checking-place, lookup-place}
 
 -- An outcome that fits 64 bits: an answer below 2^32, or a number that is not 0 and a place below 2^32.

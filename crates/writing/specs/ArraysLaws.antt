@@ -2,7 +2,7 @@
 use mathlib.Core.Path.{_≡_, refl, sym, _∙_, ap}
 use mathlib.Core.List.{List, _++_, flatten}
 use mathlib.Core.Option.{none}
-use Prim.Native.Nat.{ℕ, suc, _+_, _-_, _≤_, _<_}
+use Prim.Native.Nat.{ℕ, suc, _+_, _-_, _≤_}
 use native.Mathlib.Omega.{arith}
 use lib.ListN.{length, getD, take, drop, length-append, length-drop, List·getD-append}
 use lib.Seq.{take-all, getD-drop}
@@ -19,10 +19,9 @@ use Rattle.lists.specs.UpToLaws.{upTo-agree}
 use Rattle.group.specs.AscendingLaws.{ascending-distinct}
 use Rattle.image.specs.Sheet.{bytesOf, imageLength}
 use Rattle.image.specs.SheetLaws.{bytes-agree}
-use Rattle.numbering.specs.Members.{members, startOf}
+use Rattle.numbering.specs.Members.{members}
 use Rattle.numbering.specs.MembersLaws.{members-distinct, start-all}
-use Rattle.numbering.specs.Parts.{partStart, partOf}
-use Rattle.numbering.specs.PartsLaws.{start-inside}
+use Rattle.numbering.specs.Parts.{partStart}
 use Rattle.numbering.specs.GroupSlots.{groupSlots}
 use Rattle.numbering.specs.SlotsLaws.{slots-numbered}
 use Rattle.numbering.specs.Plan.{plannedGroups, plannedSeed}
@@ -30,7 +29,7 @@ use Rattle.numbering.specs.Planning.{tooLarge}
 use Rattle.numbering.specs.Writing.{sheetOf, choicesUnder, imageUnder, unfilled, writingChecks, plannedImage, writingOf}
 use Rattle.numbering.specs.WritingLaws.{image-length, Fit, fit-of-pass, Ready, ready-of-pass, ready-fill, writing-answered}
 use Rattle.arrange.specs.Arrange.{slotsOfPart, allSlots, slotsInto, unfilledPart, AllArrangeable}
-use Rattle.arrange.specs.SlotsLaws.{slots-length, slots-kept}
+use Rattle.arrange.specs.SlotsLaws.{slots-length}
 use Rattle.write.specs.Stated.{statedSheet, Writable}
 use Rattle.writing.specs.Arrays.{Admitted, Orderly}
 
@@ -120,7 +119,8 @@ module _ {tags : List ℕ} {groups : ℕ} {plan ordered ends : List ℕ} {room :
     }
 
     slots-are : allSlots ordered ends seeds groups
-        ≡ flatten (upTo groups (λ g. groupSlots (members groups g tags) (plannedSeed plan g) (choicesUnder groups tags (plannedSeed plan) g)))
+        ≡ flatten (upTo groups
+        (λ g. groupSlots (members groups g tags) (plannedSeed plan g) (choicesUnder groups tags (plannedSeed plan) g)))
     unfolding allSlots slotsOfPart choicesUnder
     slots-are =
         rw (upTo-agree groups (slotsOfPart ordered ends seeds)

@@ -13,7 +13,6 @@ ghost use Rattle.refusal.specs.Answer.{firstMeaning};
 ghost use Rattle.refusal.specs.Outcome.{refused};
 ghost use Rattle.refusal.specs.Reason.{reasonNumber};
 ghost use Rattle.image.specs.Sheet.{imageLength};
-ghost use Rattle.numbering.specs.Plan.{plannedGroups};
 ghost use Rattle.numbering.specs.Writing.{seedAbove, writingOf, bufferWritten};
 ghost use Rattle.condition3.specs.Condition3.{WritingCondition3};
 ghost use Rattle.writing.specs.Answer.{writeOutcome};

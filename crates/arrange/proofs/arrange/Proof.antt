@@ -2,11 +2,9 @@
 -- fills, and the others are as they were. Assumes nothing.
 use borrow.Author.Needs.{needs}
 use Prim.Native.Nat.{_-_, _≤_}
-use mathlib.Core.Path.{_≡_, sym, _∙_, ap}
-use mathlib.Core.Option.{none, some}
+use mathlib.Core.Path.{sym, _∙_, ap}
 use native.Mathlib.Omega.{arith}
-use Rattle.group.specs.Group.{wordUnder}
-use lib.ListN.{length, getD, take, drop}
+use lib.ListN.{length, getD}
 use Rattle.sequence.specs.Answer.{choicesMeaning}
 use Rattle.arrange.proofs.Slots.{Filled, filled-start, filled-length, part-within, part-legal, part-unfilled, part-arrangeable}
 use Rattle.arrange.proofs.Slots.{filled-turn, filled-done}

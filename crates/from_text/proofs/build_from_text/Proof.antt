@@ -12,7 +12,8 @@ use Rattle.from_text.proofs.build_from_text.Tie as tie
 -- The cells behind a text that is read.
 read : (c : tie.After-groups)
     → (let asked = c .before .before .before in let given = c .groups .given .0 in
-    ReadInto (asked .before .before .before .before .args .text .now) (asked .read-text .last .1 .0) (given .0) (given .1 .0) (given .1 .1 .0))
+    ReadInto (asked .before .before .before .before .args .text .now) (asked .read-text .last .1 .0)
+    (given .0) (given .1 .0) (given .1 .1 .0))
 read c =
     let asked = c .before .before .before in
     read-into _ _ (sym (ap listOutcome (c .groups .given .1)) ∙ asked .read-text .ensures .0) (asked .read-text .ensures .1)

@@ -1,9 +1,6 @@
 -- `from_text::read_text` meets its contract: a text that is too long is refused, and another is read. Assumes nothing.
 use borrow.Author.Needs.{needs}
-use mathlib.Core.Path.{_≡_, sym, _∙_, ap}
-use mathlib.Core.List.{List}
-use Prim.Native.Nat.{ℕ}
-use lib.ListN.{length}
+use mathlib.Core.Path.{sym, _∙_, ap}
 use Rattle.refusal.specs.Outcome.{Outcome, answeredBy}
 use Rattle.refusal.specs.OutcomeLaws.{by-refused}
 use Rattle.list.specs.Reading.{Listed, cellsAfter}

@@ -8,7 +8,7 @@ use Prim.Native.Nat.{ℕ, _≤_}
 use native.Mathlib.Omega.{arith}
 use lib.ListN.{length}
 use Rattle.refusal.specs.Limits.{groupMax, seedMax}
-use Rattle.refusal.specs.Outcome.{Outcome, answered, answeredBy}
+use Rattle.refusal.specs.Outcome.{answered, answeredBy}
 use Rattle.refusal.specs.OutcomeLaws.{answered-of-by, refused-of-by}
 use Rattle.filling.specs.Word.{wordOf}
 use Rattle.group.specs.Group.{taken, wordUnder}

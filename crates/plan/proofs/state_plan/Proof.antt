@@ -34,7 +34,8 @@ loop-again c =
     let start = at .before in
     let a = start .args in
     let d = set (a .plan .now) 0 (a .groups) in
-    let wide : 1 + at .loop .g < length d = omega (arith, length-set (a .plan .now) 0 (a .groups), start .pre, c .before .loop-test .taken) in (
+    let wide : 1 + at .loop .g < length d =
+    omega (arith, length-set (a .plan .now) 0 (a .groups), start .pre, c .before .loop-test .taken) in (
       omega arith,
       rw (at .loop .inv .1, add-one (at .loop .g)) (paste-suc d 1 (a .seeds .now) (at .loop .g) 0 wide (c .before .loop-test .taken)),
     )

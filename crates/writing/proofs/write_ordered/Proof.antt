@@ -1,6 +1,6 @@
 -- `writing::write_ordered` meets its contract: where some sequence fills every group under its seed, what is written is the image.
 -- Assumes nothing.
-use mathlib.Core.Path.{_≡_, refl, sym, _∙_, ap}
+use mathlib.Core.Path.{_≡_, sym, _∙_, ap}
 use mathlib.Core.List.{List, _++_}
 use mathlib.Core.Option.{none}
 use native.Mathlib.Omega.{arith}
