@@ -1,17 +1,15 @@
 -- `writing::write_admitted` meets its contract: ordering answers the group that 10 names, or leaves the tags sorted. Assumes nothing.
-use mathlib.Core.Path.{_≡_, refl, sym, _∙_, ap}
-use mathlib.Core.List.{List}
+use mathlib.Core.Path.{refl, sym, _∙_, ap}
 use native.Mathlib.Omega.{arith}
-use Prim.Native.Nat.{ℕ, _≤_}
-use lib.ListN.{length, replicate}
+use Prim.Native.Nat.{_≤_}
+use lib.ListN.{length}
 use borrow.Author.Needs.{needs}
-use Rattle.refusal.specs.Limits.{tagsMax, groupsMax}
+use Rattle.refusal.specs.Limits.{groupsMax}
 use Rattle.refusal.specs.Answer.{firstMeaning}
 use Rattle.numbering.specs.Writing.{writingChecks}
 use Rattle.numbering.specs.WritingLaws.{writing-refused, writing-kept}
-use Rattle.order.specs.Order.{groupEnds, orderedInto}
-use Rattle.order.specs.OrderLaws.{ordered-length, unless-none}
-use Rattle.order.specs.SortedLaws.{sorted-of-ordered, ends-long}
+use Rattle.order.specs.Sorted.{OrderedCells}
+use Rattle.order.specs.SortedLaws.{cells-ordered}
 use Rattle.writing.specs.ArraysLaws.{admitted-groups, admitted-count, passed-10}
 use Rattle.writing.proofs.write_admitted.Statement.{statement}
 use Rattle.writing.proofs.write_admitted.Tie as tie
@@ -24,25 +22,13 @@ legal : (c : tie.Start) → (1 ≤ c .args .groups) × (c .args .groups ≤ grou
 legal c = admitted-groups (c .pre)
 
 -- The cells then.
-abbrev ends : tie.After-enum-told → List ℕ
-ends c = c .before .before .order-by-group .last .1 .1 .0
-
-abbrev ordered : tie.After-enum-told → List ℕ
-ordered c = c .before .before .order-by-group .last .1 .1 .1 .0
-
-ends-are : (c : tie.After-enum-told)
-    → ends c ≡ groupEnds (entry c .args .groups) (entry c .args .tags .now) (replicate groupsMax 0)
-ends-are c = c .before .before .order-by-group .ensures .1 .0 ∙ unless-none _ _ (ap firstMeaning (c .enum-told .given .1))
-
-ordered-are : (c : tie.After-enum-told)
-    → ordered c ≡ orderedInto (entry c .args .groups) (entry c .args .tags .now) (replicate tagsMax 0)
-ordered-are c = c .before .before .order-by-group .ensures .1 .1 ∙ unless-none _ _ (ap firstMeaning (c .enum-told .given .1))
-
-ordered-long : (c : tie.After-enum-told) → length (ordered c) ≡ tagsMax
-ordered-long c =
-    ap length (ordered-are c)
-    ∙ ordered-length (entry c .args .groups) (entry c .args .tags .now)
-    (legal (entry c) .0) (replicate tagsMax 0) (admitted-count (entry c .pre))
+cells : (c : tie.After-enum-told)
+    → (let last = c .before .before .order-by-group .last .1 .1 in
+    OrderedCells (entry c .args .groups) (entry c .args .tags .now) (last .0) (last .1 .0))
+cells c =
+    let tested = c .before .before in
+    cells-ordered _ _ (legal (entry c)) (admitted-count (entry c .pre)) (ap firstMeaning (c .enum-told .given .1))
+    (tested .order-by-group .ensures .1 .0) (tested .order-by-group .ensures .1 .1)
 
 order-by-group-requires : tie.Need-order-by-group-requires
 order-by-group-requires c κs =
@@ -62,28 +48,22 @@ returns c =
     (c .refuse .ensures ∙ sym outcome, sym (writing-kept (a .tags .now) (a .plan .now) (a .buffer .now) outcome))
 
 slice-aggregate-write-ordered : tie.Need-slice-aggregate-write-ordered
-slice-aggregate-write-ordered c = sym (ordered-long (c .before))
+slice-aggregate-write-ordered c = sym (cells (c .before) .ordered-cells)
 
 slice-aggregate-write-ordered-2 : tie.Need-slice-aggregate-write-ordered-2
-slice-aggregate-write-ordered-2 c =
-    let told = c .before .before in
-    let start = entry told in
-    sym (ap length (ends-are told) ∙ ends-long (start .args .groups) (start .args .tags .now) _ (legal start .0) (legal start .1))
+slice-aggregate-write-ordered-2 c = sym (cells (c .before .before) .ends-cells)
 
 write-ordered-requires : tie.Need-write-ordered-requires
 write-ordered-requires c κs =
     let told = c .before .before .before in
     let start = entry told in
-    let a = start .args in
     let small = sym (told .before .before .order-by-group .ensures .0) ∙ ap firstMeaning (told .enum-told .given .1) in
     record {
       groups-are = start .pre .groups-are;
       cells = start .pre .cells;
       passes = passed-10 (start .pre) small;
-      sorted =
-          sorted-of-ordered (a .groups) (a .tags .now) (replicate groupsMax 0) (legal start .0)
-          (legal start .1) (replicate tagsMax 0) (ends-are told) (ordered-are told) (admitted-count (start .pre));
-      few-cells = omega (arith, ordered-long told);
+      sorted = cells told .sorted;
+      few-cells = omega (arith, cells told .ordered-cells);
     }
 
 pub write-admitted-spec : {M : Type 1} → statement M
