@@ -28,8 +28,8 @@ pub fn build(
     ensures answer { λ r. ⌜ buildOutcome r ≡ buildingOf (now (tags .entry)) groups limit (length (now (buffer .entry))) ⌝ }
     ensures plan { λ _. ⌜ now (plan .exit) ≡ planAfter (now (tags .entry)) groups limit ⌝ }
     ensures bytes { λ _. ⌜ now (buffer .exit) ≡ bufferAfter (now (tags .entry)) groups limit (now (buffer .entry)) ⌝ }
-    ensures condition3 { λ r. ⌜ Condition3 (now (tags .entry)) groups limit (length (now (buffer .entry)))
-        (now (plan .exit)) (buildOutcome r) (now (buffer .exit)) ⌝ }
+    ensures condition3 { λ r. ⌜ Condition3 (now (tags .entry)) groups limit (length (now (buffer .entry))) (now (plan .exit))
+        (buildOutcome r) (now (buffer .exit)) ⌝ }
 {
     match planning::plan_list(tags, groups, limit, plan) {
         PlanAnswer::Planned(_) => match writing::write_list(tags, plan, buffer) {
