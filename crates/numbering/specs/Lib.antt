@@ -18,4 +18,5 @@ pub mod BuildingLaws
 pub mod OneCallLaws
 pub mod Examples
 pub mod FromText
+pub mod FromTextLaws
 pub mod UnwiredLaws

@@ -105,3 +105,14 @@ same-bytes tags groups limit before =
     buffer-after tags groups limit before
     ∙ rw (two-call-order tags groups limit room, one-call-order tags groups limit room)
     (sym (front-left _ _ (front tags groups limit room) _ _ (moved-left _ _ (imageLength groups (length tags)) 9 10 7 _ _ _)))
+
+-- The law, whole: the two in turn held against building in one call.
+pub record AsOneCall (tags : List ℕ) (groups limit : ℕ) (before : List ℕ) : Type 0 where
+  pub bytes : bufferAfter tags groups limit before ≡ oneCallAfter tags groups limit before
+  pub answer : (met (ltb (length before) (imageLength groups (length tags))) ≡ none)
+      ⊎ ((first (tooLarge groups tags) groups ≡ none) × (first (seedless groups tags limit) groups ≡ none))
+      → buildingOf tags groups limit (length before) ≡ oneCallOf tags groups limit (length before)
+
+pub as-one-call : (tags : List ℕ) (groups limit : ℕ) (before : List ℕ) → AsOneCall tags groups limit before
+as-one-call tags groups limit before =
+    record { bytes = same-bytes tags groups limit before; answer = same-answer tags groups limit (length before) }

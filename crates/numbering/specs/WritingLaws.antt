@@ -1,5 +1,5 @@
 -- The ways in which writing ends, what it leaves in the buffer, and writing behind a planning that yielded its plan. Assumes nothing.
-use mathlib.Core.Path.{_≡_, refl, _∙_}
+use mathlib.Core.Path.{_≡_, refl, sym, _∙_}
 use mathlib.Core.Bool.{true}
 use mathlib.Core.List.{List, [], _∷_, _++_}
 use mathlib.Core.Option.{none, some}
@@ -9,10 +9,10 @@ use lib.ListN.{length, drop}
 use borrow.Author.Tests.{ltb-false, le-ltb, not-false}
 use Rattle.refusal.specs.Limits.{tagsMax, groupsMax, groupMax, limitMax, seedMax}
 use Rattle.refusal.specs.LimitsLaws.{inside}
-use Rattle.refusal.specs.Outcome.{answered, refused}
+use Rattle.refusal.specs.Outcome.{Outcome, answered, refused}
 use Rattle.refusal.specs.OutcomeLaws.{left-answered, left-refused}
 use Rattle.lists.specs.First.{first}
-use Rattle.lists.specs.FirstLaws.{first-none, first-out}
+use Rattle.lists.specs.FirstLaws.{first-none, first-out, first-cong}
 use Rattle.refusal.specs.Checks.{Check, inOrder, Pass}
 use Rattle.refusal.specs.ChecksLaws.{_then_, false-of-met, metBy, passed, checksBefore, pass-before, checksBehind, met-first}
 use Rattle.refusal.specs.ChecksLaws.{inOrder-pass, inOrder-answered, inOrder-append}
@@ -131,6 +131,32 @@ module _ (tags plan before : List ℕ) where
       → bufferWritten tags plan before ≡ plannedImage tags plan ++ drop (length (plannedImage tags plan)) before
   unfolding bufferWritten written
   writing-written e = left-answered _ _ e
+
+-- Plans with one B and the same first B seeds are written alike: what stands behind is not looked at.
+module _ (tags plan other : List ℕ) (same-groups : plannedGroups plan ≡ plannedGroups other)
+    (same-seeds : (g : ℕ) → g < plannedGroups plan → plannedSeed plan g ≡ plannedSeed other g) where
+  pub answer-alike : (room : ℕ) → writingOf tags plan room ≡ writingOf tags other room
+  unfolding writingOf writingChecks
+  answer-alike room =
+      rw (
+        first-cong (seedAbove plan) (seedAbove other) (plannedGroups plan) (λ g lt. rw (same-seeds g lt)),
+        first-cong (unfilled tags plan) (unfilled tags other) (plannedGroups plan) (λ g lt. rw (same-seeds g lt, same-groups)),
+        same-groups,
+      )
+
+  pub buffer-alike : (before : List ℕ) → bufferWritten tags plan before ≡ bufferWritten tags other before
+  unfolding plannedImage
+  buffer-alike before = go (writingOf tags plan (length before)) refl
+    where
+      go : (o : Outcome ℕ) → writingOf tags plan (length before) ≡ o → bufferWritten tags plan before ≡ bufferWritten tags other before
+      go (answered size) e =
+          let legal = ready-of-pass tags plan (length before) ((writing-says tags plan (length before) e) .0) .fit .groups-legal in
+          let image : plannedImage tags plan ≡ plannedImage tags other =
+          image-agree (plannedGroups plan) tags (plannedSeed plan) (plannedSeed other) (legal .0) same-seeds ∙ rw same-groups in
+          writing-written tags plan before e
+          ∙ sym (writing-written tags other before (sym (answer-alike (length before)) ∙ e) ∙ rw (← image))
+      go (refused number place) e =
+          writing-kept tags plan before e ∙ sym (writing-kept tags other before (sym (answer-alike (length before)) ∙ e))
 
 -- "writing with the same list and the plan as it was yielded": none of 8, 2, 5, 6, 17, 10 and 18 comes, and 9 decides.
 module _ (tags : List ℕ) (groups limit : ℕ) (passes : Pass (earlierChecks tags groups limit))
