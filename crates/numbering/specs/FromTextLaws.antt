@@ -3,7 +3,6 @@ use mathlib.Core.Path.{_≡_, refl, sym, _∙_}
 use mathlib.Core.List.{List}
 use Prim.Native.Nat.{ℕ}
 use native.Mathlib.Omega.{arith}
-use lib.ListN.{length}
 use Rattle.refusal.specs.Outcome.{Outcome, answered, refused}
 use Rattle.refusal.specs.OutcomeLaws.{followed-answered, followed-refused, left-answered}
 use Rattle.list.specs.Reading.{Listed}
