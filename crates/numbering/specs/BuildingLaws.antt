@@ -1,14 +1,16 @@
 -- The ways in which building ends, in the order of the checks of its two calls, and what it leaves in the buffer. Assumes nothing.
 use mathlib.Core.Path.{_≡_, refl, sym, _∙_}
+use mathlib.Core.Bool.{Bool, true, false}
 use mathlib.Core.List.{List, [], _∷_, _++_}
 use mathlib.Core.Option.{none, some}
 use Prim.Native.Nat.{ℕ, _≤_, _<_}
 use native.Mathlib.Omega.{arith}
+use lib.Dec.{ltb}
 use lib.ListN.{length, drop}
-use borrow.Author.Tests.{ltb-false, lt-ltb, le-ltb}
+use borrow.Author.Tests.{ltb-true, ltb-false, lt-ltb, le-ltb}
 use Rattle.refusal.specs.Outcome.{Outcome, answered, refused}
 use Rattle.refusal.specs.OutcomeLaws.{followed-answered, followed-refused, left-answered, left-refused}
-use Rattle.lists.specs.First.{first}
+use Rattle.lists.specs.First.{first, metAt}
 use Rattle.refusal.specs.Checks.{Check, met, inOrder, Pass}
 use Rattle.refusal.specs.ChecksLaws.{met-true, met-false, false-of-met, metBy, checksBefore, pass-split, met-alone}
 use Rattle.refusal.specs.ChecksLaws.{inOrder-pass, inOrder-append, inOrder-answered, inOrder-refused, refused-inOrder}
@@ -48,6 +50,20 @@ module _ (tags : List ℕ) (groups limit : ℕ) where
   building-planned room e =
       let (passes, every, is) = planning-says tags groups limit e in
       building-as-written room e ∙ rw (plan-yielded tags groups limit e) (writing-yielded tags groups limit passes every room)
+
+  -- So writing with the same list and the plan as it was yielded never answers 8, 2, 5, 6, 17, 10 or 18: its one refusal is 9.
+  pub nine-alone : (room : ℕ) {planned number place : ℕ} → planningOf tags groups limit ≡ answered planned
+      → writingOf tags (planAfter tags groups limit) room ≡ refused number place
+      → (number ≡ 9) × (room < imageLength groups (length tags))
+  unfolding inOrder met metAt
+  nine-alone room {planned} {number} {place} e told =
+      go (ltb room (imageLength groups (length tags))) refl (sym (sym (building-as-written room e) ∙ building-planned room e) ∙ told)
+    where
+      go : (b : Bool) → ltb room (imageLength groups (length tags)) ≡ b
+          → inOrder ((9, met b) ∷ []) (answered (imageLength groups (length tags))) ≡ refused number place
+          → (number ≡ 9) × (room < imageLength groups (length tags))
+      go true short refusal = (cc, ltb-true room _ short)
+      go false fits refusal = absurd (let z : _≡_ {A = ℕ} 0 1 = cc in omega arith)
 
   -- "Where both 9 and 10 or 7 would be due, planning's is met first": 8, 4, 5, 6, 17, 10, 7, 9.
   pub building-in-order : (room : ℕ) → buildingOf tags groups limit room

@@ -100,14 +100,7 @@ module _ (tags plan : List ℕ) (room : ℕ) where
     filled = λ g lt. not-false _ (first-none (unfilled tags plan) (plannedGroups plan) (passed checks h 18) g lt);
   }
 
--- The length that writing answers is that of an image of at most 4,096 tags in at most 512 groups.
-pub written-most : (tags plan : List ℕ) (room : ℕ) {size : ℕ} → writingOf tags plan room ≡ answered size → size ≤ longestImage
-written-most tags plan room e =
-    let (passes, is) = writing-says tags plan room e in
-    let fit = ready-of-pass tags plan room passes .fit in
-    rw (← is) (image-longest (plannedGroups plan) (length tags) (fit .groups-legal .1) (fit .count-legal))
-
--- Then the sequences taken fill.
+-- Where they pass, the sequences taken fill.
 pub ready-fill : {tags plan : List ℕ} {room : ℕ} → Ready tags plan room
     → AllFill (plannedGroups plan) tags (plannedSeed plan) (choicesUnder (plannedGroups plan) tags (plannedSeed plan))
 unfolding choicesUnder
@@ -119,6 +112,13 @@ ready-fill {tags} {plan} r = record {
       let (cs, f) = feasible-fills (groupUnder own (plannedSeed plan g)) (r .filled g lt) in
       taken-fills own (plannedSeed plan g) cs f;
 }
+
+-- The length that writing answers is that of an image of at most 4,096 tags in at most 512 groups.
+pub written-most : (tags plan : List ℕ) (room : ℕ) {size : ℕ} → writingOf tags plan room ≡ answered size → size ≤ longestImage
+written-most tags plan room e =
+    let (passes, is) = writing-says tags plan room e in
+    let fit = ready-of-pass tags plan room passes .fit in
+    rw (← is) (image-longest (plannedGroups plan) (length tags) (fit .groups-legal .1) (fit .count-legal))
 
 -- A refusal leaves the buffer as it was; otherwise the image stands at its beginning.
 module _ (tags plan before : List ℕ) where
