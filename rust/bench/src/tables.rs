@@ -96,12 +96,25 @@ fn time_builds(
     expected: &[u8],
     iterations: u32,
 ) -> Duration {
+    time_images(version, answer, expected, iterations, |buffer| {
+        (version.build)(black_box(text), black_box(buffer))
+    })
+}
+
+/// The time of so many runs that leave this image in a buffer and answer this number.
+fn time_images(
+    version: Version,
+    answer: u64,
+    expected: &[u8],
+    iterations: u32,
+    run: impl Fn(&mut [u8]) -> u64,
+) -> Duration {
     let mut buffer = vec![0; expected.len()];
     let mut all = Duration::ZERO;
     for _ in 0..iterations {
         buffer.fill(CLEARED);
         let begin = Instant::now();
-        let answered = (version.build)(black_box(text), black_box(&mut buffer));
+        let answered = run(&mut buffer);
         all += begin.elapsed();
         assert_eq!(answered, answer);
         assert!(buffer == expected, "{} writes another image", version.name);
@@ -235,17 +248,10 @@ fn time_writings(
     expected: &[u8],
     iterations: u32,
 ) -> Duration {
-    let mut buffer = vec![0; expected.len()];
-    let mut all = Duration::ZERO;
-    for _ in 0..iterations {
-        buffer.fill(CLEARED);
-        let begin = Instant::now();
-        let answered = (version.write)(black_box(text), black_box(plan), black_box(&mut buffer));
-        all += begin.elapsed();
-        assert_eq!(answered, expected.len() as u64);
-        assert!(buffer == expected, "{} writes another image", version.name);
-    }
-    all
+    let answer = expected.len() as u64;
+    time_images(version, answer, expected, iterations, |buffer| {
+        (version.write)(black_box(text), black_box(plan), black_box(buffer))
+    })
 }
 
 /// The image under the plan of the same list.

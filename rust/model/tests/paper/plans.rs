@@ -1,7 +1,8 @@
 //! Planning, writing with any plan, and building as the two in turn.
 
 use crate::common::{
-    refusal, tags_of_group, with_line, WHOLE_CASE_IMAGE, WHOLE_CASE_TEXT, WITHOUT_PLACE_2,
+    refusal, tags_of_group, tags_of_groups, with_line, WHOLE_CASE_IMAGE, WHOLE_CASE_TEXT,
+    WITHOUT_PLACE_2,
 };
 use model::hash::{group_of, place_of};
 use model::image::image_length;
@@ -134,14 +135,7 @@ fn refusal_18_is_decided_under_the_one_seed_at_the_lowest_group() {
         }
     }
     // 32 tags of each group, which seed 0 does not serve; one tag always is.
-    let list = |parts: &[(u32, usize)]| {
-        let mut tags: Vec<u32> = parts
-            .iter()
-            .flat_map(|&(group, count)| tags_of_group(group, 5, count))
-            .collect();
-        tags.sort_unstable();
-        tags
-    };
+    let list = |parts: &[(u32, usize)]| tags_of_groups(parts, 5);
     let zeros = plan_of(&[0; 5]);
     for group in [0, 2, 4] {
         let tags = list(&[(1, 1), (3, 0), (group, 32)]);

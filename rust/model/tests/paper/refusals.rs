@@ -1,6 +1,6 @@
 //! Each refusal with its place, in the order of the checks: where two conditions hold, the earlier decides.
 
-use crate::common::{group_without_seed, refusal, tags_of_group};
+use crate::common::{group_without_seed, refusal, tags_of_group, tags_of_groups};
 use model::{build, image_of, place_group, place_of_one_tag};
 
 #[test]
@@ -74,14 +74,7 @@ fn building_refuses_with_8_then_4_then_5_then_6_then_10_then_7_then_9() {
 
 #[test]
 fn refusals_10_and_7_name_the_lowest_such_group() {
-    let list = |parts: &[(u32, usize)]| {
-        let mut tags: Vec<u32> = parts
-            .iter()
-            .flat_map(|&(group, count)| tags_of_group(group, 5, count))
-            .collect();
-        tags.sort_unstable();
-        tags
-    };
+    let list = |parts: &[(u32, usize)]| tags_of_groups(parts, 5);
     assert_eq!(
         image_of(&list(&[(1, 32), (2, 33), (4, 40)]), 5, 1),
         Err(refusal(10, 2))
