@@ -1,16 +1,22 @@
-/* The C boundary of the two-choice tag index: building, checking, lookup and placing a group.
+/* The C boundary of the two-choice tag index: building, by one call or by planning and writing,
+ * checking, lookup and placing a group.
  *
  * The functions stand in libtag_index.a, for x86-64: `rt staticlib tag_index` writes it to
  * target/staticlib/.
  *
  * What a caller owes, and nothing else: each pointer and length is a valid range of memory, the
- * pointer not null even where the length is 0, and `word` a cell; the range or cell that is written
- * overlaps no other; and nothing else writes these ranges during the call. The bytes may be
- * anything, the lengths, the tags and the limit too. A function reads and writes only inside the
- * ranges given, and its answer depends on nothing but the arguments.
+ * pointer not null even where the length is 0, `word` a cell and `plan` TAG_INDEX_PLAN_CELLS of
+ * them; what is written overlaps nothing else; and nothing else writes these ranges and cells during
+ * the call. The bytes may be anything, the lengths, the tags, the limit and the numbers of a plan
+ * too. A function reads and writes only inside the ranges given, and its answer depends on nothing
+ * but the arguments.
  *
  * Each answer is one 64-bit number. Below 2^32 it is what each function says; from 2^32 on it is a
  * refusal, number × 2^32 + place, to be taken apart by the functions below.
+ *
+ * A list text is read first, and its refusals come in this order: 5 if it is above 65,527 bytes, 16,
+ * and 5 if it has above 4,096 tags. Then come those of building, planning or writing, in the order in
+ * which they are named there.
  */
 #ifndef TAG_INDEX_H
 #define TAG_INDEX_H
@@ -27,18 +33,19 @@ extern "C" {
 #define TAG_INDEX_LARGEST_GROUPS 512u  /* group count, B */
 #define TAG_INDEX_LARGEST_GROUP 32u    /* tags of a group */
 #define TAG_INDEX_LARGEST_LIMIT 65536u /* seed limit, L */
-#define TAG_INDEX_LONGEST_TEXT 65527u  /* bytes of a list text that building examines */
+#define TAG_INDEX_LONGEST_TEXT 65527u  /* bytes of a list text that is examined */
 #define TAG_INDEX_LONGEST_IMAGE 50699u /* bytes of an image: a buffer so long is never too short */
 #define TAG_INDEX_LINE 11u             /* bytes of a line, of a list text and of an image */
+#define TAG_INDEX_PLAN_CELLS 513u      /* cells of a plan: B, and a seed for each of 512 groups */
 
 /* Lookup's answer where the image does not have the tag. */
 #define TAG_INDEX_UNKNOWN UINT64_C(4294967295)
 
 /* The numbers of the refusals, and what their place counts, from 0; it is 0 where none is said.
- * 1 to 3 belong to "place of one tag" and never come from these functions. More can come. */
+ * 1 and 3 belong to "place of one tag" and never come from these functions. More can come. */
 enum tag_index_reason {
     TAG_INDEX_SIZE_OUT_OF_RANGE = 1,
-    TAG_INDEX_SEED_OUT_OF_RANGE = 2,
+    TAG_INDEX_SEED_OUT_OF_RANGE = 2,         /* group: its seed in the plan is above 65,535 */
     TAG_INDEX_CHOICE_OUT_OF_RANGE = 3,
     TAG_INDEX_LIMIT_OUT_OF_RANGE = 4,        /* L is not 1 to 65,536 */
     TAG_INDEX_TOO_MANY_TAGS = 5,             /* above 4,096 tags, above 32 from placing, or a text
@@ -54,16 +61,38 @@ enum tag_index_reason {
     TAG_INDEX_WRONG_SLOT = 14,               /* slot: its tag does not belong there */
     TAG_INDEX_REPEATED_TAG = 15,             /* slot: its tag stands in a lower slot too */
     TAG_INDEX_MALFORMED_LIST = 16,           /* line of the list text */
-    TAG_INDEX_UNWIRED_TAG = 17               /* tag 0, reserved for an unwired point; from checking
+    TAG_INDEX_UNWIRED_TAG = 17,              /* tag 0, reserved for an unwired point; from checking
                                               * the slot that holds it */
+    TAG_INDEX_SEED_DOES_NOT_SERVE = 18       /* group: no choice sequence fills it under its seed in
+                                              * the plan */
 };
 
-/* Builds the image of a list text at the beginning of the buffer `image`.
+/* Builds the image of a list text at the beginning of the buffer `image`: tag_index_plan, and, if it
+ * does not refuse, tag_index_write with the same text and its plan.
  *
- * Answers the image's length, 22 to 50,699, or refusal 16, 5, 8, 4, 6, 17, 9, 10 or 7. The bytes
- * behind the image stay as they were; a refusal leaves all of them as they were. */
+ * Answers the image's length, 22 to 50,699, or a refusal: the text's, 8, 4, 6, 17, 10, 7 or 9. The
+ * bytes behind the image stay as they were; a refusal leaves all of them as they were. */
 uint64_t tag_index_build(const uint8_t *text, size_t text_length, uint8_t *image,
                          size_t image_length);
+
+/* Plans the image of a list text: the least seed below L that serves each group.
+ *
+ * Answers B, 1 to 512: plan[0] becomes B and plan[1 + g] the seed of group g, 0 from group B on. Or a
+ * refusal: the text's, 8, 4, 6, 17, 10 or 7; each, the text's too, leaves 0 in all cells of the
+ * plan. */
+uint64_t tag_index_plan(const uint8_t *text, size_t text_length, uint32_t *plan);
+
+/* Writes the image of a list text's tags under a plan at the beginning of the buffer `image`.
+ *
+ * The plan is any numbers: B, and the seed of group g in plan[1 + g]; from group B on they are not
+ * looked at. The text's own B and L have to be well formed and mean nothing here. Each group has the
+ * plan's seed in its line, an empty one too.
+ *
+ * Answers the image's length, 22 to 50,699, or a refusal: the text's, 8 for the plan's B, 2, 6, 17,
+ * 9, 10 or 18. The bytes behind the image stay as they were; a refusal leaves all of them as they
+ * were. With the text that was planned, and the plan as it was made, no refusal but 9 comes. */
+uint64_t tag_index_write(const uint8_t *text, size_t text_length, const uint32_t *plan,
+                         uint8_t *image, size_t image_length);
 
 /* Checks an image of any origin: its length, every line, every group and every slot.
  *

@@ -1,11 +1,13 @@
-/* Uses the tag index from C: builds the image of a list, checks it, looks up tags, places a group,
- * and shows what refusals look like. tools/c-example compiles and runs it. */
+/* Uses the tag index from C: builds the image of a list, checks it, looks up tags, plans an image and
+ * writes it later, places a group, and shows what refusals look like. tools/c-example compiles and
+ * runs it. */
 #include <stdio.h>
 #include <string.h>
 
 #include "tag_index.h"
 
 static uint8_t image[TAG_INDEX_LONGEST_IMAGE];
+static uint32_t seeds[TAG_INDEX_PLAN_CELLS];
 
 /* Builds the image of a list text and prints the answer. */
 static uint64_t build(const char *text, size_t room) {
@@ -17,6 +19,33 @@ static uint64_t build(const char *text, size_t room) {
         printf("build: %u bytes\n", (unsigned)answer);
     }
     return answer;
+}
+
+/* Plans the image of a list text and prints B with the seeds. */
+static void plan(const char *text) {
+    uint64_t answer = tag_index_plan((const uint8_t *)text, strlen(text), seeds);
+    if (tag_index_refused(answer)) {
+        printf("plan: refusal %u at %u, B is %u\n", (unsigned)tag_index_refusal_number(answer),
+               (unsigned)tag_index_refusal_place(answer), (unsigned)seeds[0]);
+        return;
+    }
+    printf("plan: %u groups, seeds", (unsigned)answer);
+    for (size_t group = 0; group < answer; group++) {
+        printf(" %u", (unsigned)seeds[1 + group]);
+    }
+    printf("\n");
+}
+
+/* Writes the image of a list text under the plan and prints the answer. */
+static void write_image(const char *text) {
+    uint64_t answer =
+        tag_index_write((const uint8_t *)text, strlen(text), seeds, image, sizeof image);
+    if (tag_index_refused(answer)) {
+        printf("write: refusal %u at %u\n", (unsigned)tag_index_refusal_number(answer),
+               (unsigned)tag_index_refusal_place(answer));
+    } else {
+        printf("write: %u bytes\n", (unsigned)answer);
+    }
 }
 
 static void check(size_t length) {
@@ -94,6 +123,24 @@ int main(void) {
     look_up(length, 0);
     look_up(length, 2);
     look_up(length, 3);
+
+    /* The seeds on one day, the image under them at the shift change. By then tag 9 has been added,
+     * and seed 1 does not serve its group, 1, any more: refused, and the image stays. */
+    plan(list);
+    write_image(list);
+    check(length);
+    write_image("    2    9\n"
+                "         1\n"
+                "         2\n"
+                "         3\n"
+                "         9\n");
+    check(length);
+
+    /* A plan is any numbers: 65,536 is no seed, and B is 0 after a refused planning. */
+    seeds[1 + 0] = 65536;
+    write_image(list);
+    plan("    2    0\n");
+    write_image(list);
 
     /* Groups placed by themselves. No seed below L = 1 serves the second, and seed 1 does; the
      * third has a tag more than a group holds. */

@@ -3,13 +3,13 @@ use Prim.Native.Nat.{ℕ, zero, suc, _+_, _≤_}
 use mathlib.Core.Path.{_≡_, refl, ap}
 use mathlib.Core.List.{List, [], _++_, flatten}
 use native.Mathlib.Omega.{arith}
-use lib.ListN.{length, getD, drop, length-append, length-drop}
+use lib.ListN.{length, getD, length-append, length-drop}
 use Rattle.lists.specs.UpTo.{upTo}
 use Rattle.lists.specs.UpToLaws.{flatten-more}
 use Rattle.group.specs.Group.{taken}
 use Rattle.numbering.specs.Parts.{partStart, partOf, Parts}
 use Rattle.numbering.specs.PartsLaws.{start-inside, part-length}
-use Rattle.arrange.specs.Arrange.{slotsOfPart, allSlots}
+use Rattle.arrange.specs.Arrange.{slotsOfPart, allSlots, slotsInto}
 use Rattle.numbering.specs.SlotsLaws.{slots-length as groupSlots-length}
 
 module _ (ordered ends seeds : List ℕ) where
@@ -40,5 +40,6 @@ module _ {groups : ℕ} {ordered ends : List ℕ} (p : Parts groups ordered ends
 
   -- Cells that begin with the slots of the first groups, and are else as they were, keep their number.
   pub slots-kept : (g : ℕ) → g ≤ groups → (before : List ℕ) → length ordered ≤ length before
-      → length (allSlots ordered ends seeds g ++ drop (partStart ends g) before) ≡ length before
+      → length (slotsInto ordered ends seeds g before) ≡ length before
+  unfolding slotsInto
   slots-kept g le before room = simp (length-append, length-drop) (omega (arith, slots-length g le, start-inside p g le))

@@ -1,42 +1,45 @@
 // A group's tags put in the order of their places, and the slots of all groups one group's after the other's.
+use refusal::First;
+use sequence::Choices;
 ghost use mathlib.Core.Path.{_≡_};
 ghost use mathlib.Core.Bool.{cond};
-ghost use mathlib.Core.List.{_++_};
+ghost use mathlib.Core.Option.{Option·getD};
 ghost use Prim.Native.Nat.{_<_};
-ghost use lib.ListN.{length, drop};
+ghost use lib.ListN.{length};
+ghost use Rattle.lists.specs.First.{first};
+ghost use Rattle.refusal.specs.Answer.{firstMeaning};
 ghost use Rattle.group.specs.Group.{taken};
 ghost use Rattle.bits.specs.WordBits.{choiceIn};
-ghost use Rattle.numbering.specs.Parts.{partStart};
 ghost use Rattle.numbering.specs.GroupSlots.{groupSlots};
-ghost use Rattle.arrange.specs.Arrange.{Arrangeable, AllArrangeable, allSlots};
+ghost use Rattle.arrange.specs.Arrange.{Arrangeable, AllArrangeable, unfilledPart, slotsInto};
 
-// Writes the slots of all groups, one group's after the other's; the cells after them stay. Part g of the tags, in the order of the
-// groups, ends at `ends[g]`, its seed is `seeds[g]`, and the word of the sequence taken is `words[g]`.
+// Writes the slots of all groups, one group's after the other's, and stops at the lowest group that no sequence fills under its seed;
+// the cells after them stay. Part g of the tags, in the order of the groups, ends at `ends[g]`, and its seed is `seeds[g]`.
 pub fn arrange(
     ordered: &[u32],
     ends: &[usize],
     seeds: &[u32],
-    words: &[u32],
     groups: usize,
     slots: &mut [u32],
-)
-    requires { ⌜ AllArrangeable groups (now ordered) (now ends) (now seeds) (now words) (length (now slots)) ⌝ }
-    ensures cells { λ _. ⌜ now (slots .exit) ≡ allSlots (now (ordered .entry)) (now (ends .entry)) (now (seeds .entry)) groups
-        ++ drop (partStart (now (ends .entry)) groups) (now (slots .entry)) ⌝ }
+) -> First
+    requires { ⌜ AllArrangeable groups (now ordered) (now ends) (now seeds) (length (now slots)) ⌝ }
+    ensures answer { λ r. ⌜ firstMeaning r ≡ first (unfilledPart (now (ordered .entry)) (now (ends .entry)) (now (seeds .entry))) groups ⌝ }
+    ensures cells { λ r. ⌜ now (slots .exit) ≡ slotsInto (now (ordered .entry)) (now (ends .entry)) (now (seeds .entry))
+        (Option·getD (firstMeaning r) groups) (now (slots .entry)) ⌝ }
 {
     let mut start = 0;
     let mut g = 0;
     while g < groups {
         let end = ends[g];
-        arrange_group(
-            &ordered[start..end],
-            seeds[g],
-            words[g],
-            &mut slots[start..end],
-        );
+        let seed = seeds[g];
+        let Choices::Word(word) = word::word_under(&ordered[start..end], seed) else {
+            return First::At(g);
+        };
+        arrange_group(&ordered[start..end], seed, word, &mut slots[start..end]);
         start = end;
         g += 1;
     }
+    First::Nowhere
 }
 
 // Writes the slots of one group: each tag into the cell of its place, under the seed and the word of the sequence taken.

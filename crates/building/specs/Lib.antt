@@ -1,4 +1,2 @@
 pub mod Answer
-pub mod Arrays
-pub mod ArraysLaws
 pub mod PromiseLaws

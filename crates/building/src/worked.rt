@@ -10,5 +10,6 @@ pub fn build_without_groups(tags: &[u32], buffer: &mut [u8]) -> BuildAnswer
     ensures answer { λ r. ⌜ buildOutcome r ≡ refused 8 0 ⌝ }
     ensures kept { λ _. ⌜ now (buffer .exit) ≡ now (buffer .entry) ⌝ }
 {
-    build(tags, 0, 1, buffer)
+    let mut plan = [0u32; refusal::PLAN_CELLS];
+    build(tags, 0, 1, &mut plan, buffer)
 }

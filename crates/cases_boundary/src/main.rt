@@ -1,4 +1,4 @@
-// Runs the four functions of the C boundary: the whole case of document 01, and refusals of each operation. Each answer is printed
+// Runs the six functions of the C boundary: the whole case of document 01, and refusals of each operation. Each answer is printed
 // as the number that C gets.
 
 // Prints the case's name and an answer.
@@ -13,6 +13,32 @@ fn answer(name: &[u8], r: u64) {
 fn build(name: &[u8], text: &[u8]) {
     let mut image = [b'.'; 77];
     answer(name, tag_index::tag_index_build(text, &mut image));
+    report::words(&image);
+    report::words(b"\n");
+}
+
+// Prints what stands in the cells that planning was lent.
+fn plan_cells(cells: &[u32; 513]) {
+    report::words(b"  cells");
+    report::numbers(cells);
+    report::words(b"\n");
+}
+
+// Plans from a text into cells that all hold 9, and prints the answer and all cells.
+fn plan(name: &[u8], text: &[u8]) {
+    let mut cells = [9u32; 513];
+    answer(name, tag_index::tag_index_plan(text, &mut cells));
+    plan_cells(&cells);
+}
+
+// Writes the tags of a text with a plan of two seeds, behind which all cells hold 4,294,967,295, into a buffer of 77 bytes.
+fn write(name: &[u8], text: &[u8], groups: u32, first: u32, second: u32) {
+    let mut cells = [4294967295u32; 513];
+    cells[0] = groups;
+    cells[1] = first;
+    cells[2] = second;
+    let mut image = [b'.'; 77];
+    answer(name, tag_index::tag_index_write(text, &cells, &mut image));
     report::words(&image);
     report::words(b"\n");
 }
@@ -75,6 +101,101 @@ fn building() {
     );
 }
 
+// The whole case, and refusals of planning, reading's among them: each leaves zeros.
+fn plans() {
+    plan(
+        b"plan of the whole case",
+        b"    2    9\n         1\n         2\n         3\n",
+    );
+    plan(b"plan of no bytes", b"");
+    plan(
+        b"plan, line 2 malformed",
+        b"    2    9\n         1\n        02\n         3\n",
+    );
+    plan(b"plan, B = 513", b"  513    9\n         1\n");
+    plan(b"plan, L = 65537", b"    265537\n         1\n");
+    plan(
+        b"plan, tag 2 after tag 3",
+        b"    2    9\n         1\n         3\n         2\n",
+    );
+    plan(
+        b"plan, a list with tag 0",
+        b"    2    9\n         0\n         1\n         2\n",
+    );
+    plan(
+        b"plan, seeds 1 and 2 with L = 2",
+        b"    2    2\n         1\n         3\n         4\n         9\n        12\n",
+    );
+}
+
+// The whole case under its plan, whatever B and L the text has, and under another; and refusals of writing, reading's first.
+fn writing() {
+    write(
+        b"writing of the whole case",
+        b"    2    9\n         1\n         2\n         3\n",
+        2,
+        0,
+        1,
+    );
+    write(
+        b"writing, the text's B and L are 0 and 99999",
+        b"    099999\n         1\n         2\n         3\n",
+        2,
+        65535,
+        3,
+    );
+    write(b"writing of no bytes, B = 0", b"", 0, 0, 0);
+    write(
+        b"writing, the text's B malformed, B = 513",
+        b"   02    9\n         1\n",
+        513,
+        0,
+        0,
+    );
+    write(
+        b"writing, B = 513",
+        b"    2    9\n         1\n",
+        513,
+        65536,
+        0,
+    );
+    write(
+        b"writing, seed 65536 in group 1, tag 2 after tag 3",
+        b"    2    9\n         1\n         3\n         2\n",
+        2,
+        0,
+        65536,
+    );
+    write(
+        b"writing, tag 2 after tag 3",
+        b"    2    9\n         1\n         3\n         2\n",
+        2,
+        0,
+        1,
+    );
+    write(
+        b"writing, a list with tag 0",
+        b"    2    9\n         0\n         1\n         2\n",
+        2,
+        0,
+        1,
+    );
+    write(
+        b"writing, buffer of 77 for an image of 88 bytes",
+        b"    2    9\n         1\n         2\n         3\n         4\n         5\n",
+        2,
+        0,
+        0,
+    );
+    write(
+        b"writing, seed 0 does not serve group 1",
+        b"    2    9\n         1\n         2\n         3\n",
+        2,
+        0,
+        0,
+    );
+}
+
 // The longest text that is examined, with its last line malformed; and one byte more.
 fn long_texts() {
     let mut image = [b'.'; 66];
@@ -94,6 +215,8 @@ fn long_texts() {
         b"65528 bytes",
         tag_index::tag_index_build(&longer, &mut image),
     );
+    plan(b"plan of 65528 bytes", &longer);
+    write(b"writing of 65528 bytes, B = 0", &longer, 0, 0, 0);
 }
 
 // The image of the whole case, and damaged ones: 11, 12, 13, 14, 15 and 17.
@@ -184,6 +307,8 @@ fn groups() {
 
 fn main() {
     building();
+    plans();
+    writing();
     long_texts();
     images();
     groups();

@@ -6,7 +6,8 @@ use Rattle.refusal.specs.Outcome.{Outcome, answered, followedBy}
 use Rattle.lists.specs.Occurs.{occurs}
 use Rattle.image.specs.Lookup.{Found, number, unknown}
 use Rattle.numbering.specs.Number.{numberOf}
-use Rattle.numbering.specs.Building.{seedTaken, choicesTaken, buildingOf}
+use Rattle.numbering.specs.Planning.{seedTaken}
+use Rattle.numbering.specs.Building.{choicesTaken, buildingOf}
 
 -- "lookup in the written image answers the tag's number if it is in the list, and unknown if it is not".
 unfoldable pub foundIn : List ℕ → ℕ → ℕ → ℕ → Found

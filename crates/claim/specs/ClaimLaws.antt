@@ -1,5 +1,5 @@
 -- The claim from building's answer, and from lookup in what it wrote. Assumes nothing.
-use mathlib.Core.Path.{_≡_, refl, sym}
+use mathlib.Core.Path.{_≡_, refl}
 use mathlib.Core.Bool.{true}
 use mathlib.Core.List.{List}
 use Prim.Native.Nat.{ℕ, _≤_, _<_}
@@ -10,7 +10,9 @@ use Rattle.refusal.specs.Outcome.{Outcome, answered, refused, followedBy}
 use Rattle.lists.specs.Occurs.{occurs}
 use Rattle.image.specs.Lookup.{number, lookupOf}
 use Rattle.numbering.specs.Building.{imageOf, buildingOf, bufferAfter}
-use Rattle.numbering.specs.BuildingLaws.{image-length, buffer-written, answered-size}
+use Rattle.numbering.specs.Planning.{seedTaken}
+use Rattle.numbering.specs.WritingLaws.{image-length}
+use Rattle.numbering.specs.BuildingLaws.{buffer-written, answered-size}
 use Rattle.numbering.specs.UnwiredLaws.{building-wired}
 use Rattle.condition3_theorem.specs.Condition3Theorem.{image-written, looked-up}
 use Rattle.claim.specs.Claim.{foundIn, claimOf}
@@ -30,7 +32,7 @@ module _ (tags : List ℕ) (groups limit : ℕ) (before : List ℕ) (tag : ℕ) 
       (omega (
         arith,
         answered-size tags groups limit (length before) e,
-        image-length groups tags limit,
+        image-length groups tags (seedTaken groups tags limit),
         length-append image (drop (length image) before),
       ))
 
@@ -41,7 +43,7 @@ module _ (tags : List ℕ) (groups limit : ℕ) (before : List ℕ) (tag : ℕ) 
       → lookupOf (take size after) tag ≡ claimOf tags groups limit (length before) tag
   unfolding claimOf followedBy foundIn
   claim-found {size} words is e =
-      rw (is, image-written tags groups limit before size e (sym (answered-size tags groups limit (length before) e)), e)
+      rw (is, image-written tags groups limit before size e, e)
       (looked-up tags groups limit (length before) words e tag)
 
 -- Tag 0 has a number in nothing that building writes.

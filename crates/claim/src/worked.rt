@@ -8,8 +8,9 @@ pub fn number_of_one() -> u32
     ensures answer { λ r. ⌜ r ≡ 1 ⌝ }
 {
     let tags = [1u32, 2];
+    let mut plan = [0u32; refusal::PLAN_CELLS];
     let mut buffer = [0u8; 44];
-    match build_then_look_up(&tags, 1, 1, &mut buffer, 1) {
+    match build_then_look_up(&tags, 1, 1, &mut plan, &mut buffer, 1) {
         LookupAnswer::Number(j) => j,
         LookupAnswer::Unknown => 2,
         LookupAnswer::Refused(_) => 3,

@@ -24,7 +24,8 @@ use Rattle.group.specs.GroupLaws.{leastSeed-some, leastSeed-none}
 use Rattle.image.specs.Lookup.{number, unknown, lookupOf}
 use Rattle.numbering.specs.Members.{members, startOf}
 use Rattle.numbering.specs.Number.{placeIn, numberOf}
-use Rattle.condition3.specs.Condition3.{Condition3, Accepted, EarlierChecks}
+use Rattle.numbering.specs.Plan.{plannedGroups, plannedSeed}
+use Rattle.condition3.specs.Condition3.{LowestWithout, EarlierChecks, Serves, PlanningCondition3, Accepted, Condition3}
 
 -- A sequence of choices that "makes a seed … give each of its tags a place of its own"; and that there is none.
 abbrev pub Places : List ℕ → ℕ → ℕ → ℕ → List Bool → Type 0
@@ -37,69 +38,68 @@ Nothing tags groups g s = (choices : List Bool) → Places tags groups g s choic
 abbrev pub Seed : List ℕ → ℕ → ℕ → ℕ → Type 0
 Seed tags groups limit g = (s : ℕ) × (s < limit) × ((choices : List Bool) × Places tags groups g s choices)
 
--- The seeds and sequences of an accepted building: those in the lines of the written image.
-pub record Taken (tags : List ℕ) (groups : ℕ) (image : List ℕ) : Type 0 where
-  pub seed : ℕ → ℕ
-  pub choices : ℕ → List Bool
-  pub line : (g : ℕ) → g < groups → lineAt (suc g) image ≡ pairLine (startOf groups g tags) (seed g)
-
-module _ {tags : List ℕ} {groups limit room : ℕ} {answer : Outcome ℕ} {after : List ℕ}
-    (c : Condition3 tags groups limit room answer after) where
+module _ {tags : List ℕ} {groups limit room : ℕ} {plan : List ℕ} {answer : Outcome ℕ} {after : List ℕ}
+    (c : Condition3 tags groups limit room plan answer after) where
   -- What holds of an accepted building. `size` is its answer, and the written image the buffer's first bytes, as many.
   module _ (size : ℕ) (e : answer ≡ answered size) where
-    accepted : Accepted tags groups limit after size
+    accepted : Accepted tags groups plan after size
     accepted = c .accepted size e
+
+    served : Serves tags groups limit plan
+    served = c .seeds .serves size e
 
     -- "the answer is its length": 11 × (1 + B + N).
     pub length-answered : size ≡ 11 * (1 + groups + length tags)
     length-answered = accepted .whole
 
-    -- "the seed in the group's line of the written image"
-    pub taken : Taken tags groups (take size after)
-    taken = record { seed = accepted .seed; choices = accepted .choices; line = accepted .line }
+    -- "the seed in the group's line of the written image" is that of the yielded plan,
+    pub seed-in-line : (g : ℕ) → g < groups
+        → lineAt (suc g) (take size after) ≡ pairLine (startOf groups g tags) (plannedSeed plan g)
+    seed-in-line = accepted .line
 
     -- is one of "the seeds tried",
-    pub seed-tried : (g : ℕ) → g < groups → (taken .seed) g < limit
-    unfolding taken
-    seed-tried = accepted .below-limit
+    pub seed-tried : (g : ℕ) → g < groups → plannedSeed plan g < limit
+    seed-tried = served .below-limit
 
-    -- and the sequence taken gives each tag a place of its own,
-    pub sequence-places : (g : ℕ) → g < groups → Places tags groups g ((taken .seed) g) ((taken .choices) g)
-    unfolding taken
+    -- and the sequence taken under it gives each tag a place of its own,
+    pub sequence : ℕ → List Bool
+    sequence = accepted .choices
+
+    pub sequence-places : (g : ℕ) → g < groups → Places tags groups g (plannedSeed plan g) (sequence g)
+    unfolding sequence
     sequence-places = accepted .fills
 
     -- "Among filling sequences the least is taken".
-    pub sequence-least : (g : ℕ) → g < groups → (other : List Bool) → Places tags groups g ((taken .seed) g) other
-        → NotAfter ((taken .choices) g) other
-    unfolding taken
+    pub sequence-least : (g : ℕ) → g < groups → (other : List Bool) → Places tags groups g (plannedSeed plan g) other
+        → NotAfter (sequence g) other
+    unfolding sequence
     sequence-least = accepted .least
 
     -- "No sequence of choices whatever … makes a seed that the builder passed over for that group give each of its tags a place of its
     -- own": passed over is what is lower than the seed in the group's line,
-    pub passed-over-accepted : (g : ℕ) → g < groups → (s : ℕ) → s < (taken .seed) g → Nothing tags groups g s
-    unfolding taken
-    passed-over-accepted = accepted .passed-over
+    pub passed-over-accepted : (g : ℕ) → g < groups → (s : ℕ) → s < plannedSeed plan g → Nothing tags groups g s
+    passed-over-accepted g lt = c .seeds .passed-over g (rw (served .groups-are) lt)
 
     -- A tag's number: "its group's start plus its place", under the seed and the sequence taken.
     pub numberFor : ℕ → ℕ
     numberFor t =
         let g = groupOf groups t in
-        startOf groups g tags + placeIn (members groups g tags) ((taken .seed) g) ((taken .choices) g) t
+        startOf groups g tags + placeIn (members groups g tags) (plannedSeed plan g) (sequence g) t
 
     -- "each of its tags has exactly one of" the numbers below N,
     pub has-number : (t : ℕ) → occurs t tags ≡ true → numberFor t < length tags
-    unfolding taken numberFor numberOf
+    unfolding sequence numberFor numberOf
     has-number = accepted .number-below
 
     -- "each number below N belongs to exactly one of its tags";
     pub belongs-to-one : (j : ℕ) → j < length tags
         → (t : ℕ) × (occurs t tags ≡ true) × (numberFor t ≡ j) × ((u : ℕ) → occurs u tags ≡ true → numberFor u ≡ j → u ≡ t)
-    unfolding taken numberFor numberOf
+    unfolding sequence numberFor numberOf
     belongs-to-one j lt = let one = accepted .number-once j lt in (one .tag, one .listed, one .number-is, one .only)
 
     -- "and for every tag there is, lookup in the written image answers the tag's number if it is in the list,
     pub listed-found : (t : ℕ) → t < tagEnd → occurs t tags ≡ true → lookupOf (take size after) t ≡ answered (number (numberFor t))
-    unfolding taken numberFor numberOf
+    unfolding sequence numberFor numberOf
     listed-found = accepted .listed
 
     -- and unknown if it is not."
@@ -123,25 +123,27 @@ module _ {tags : List ℕ} {groups limit room : ℕ} {answer : Outcome ℕ} {aft
             go true m = let l = listed-found t word m in (m, cc)
             go false m = let l = unlisted-unknown t word m in absurd (let z : _≡_ {A = ℕ} 0 1 = cc in omega arith)
 
+  -- "a seed lower than the group's seed in the yielded plan is passed over too, even if writing refuses",
+  pub passed-over-planned : (g : ℕ) → g < plannedGroups plan → (s : ℕ) → s < plannedSeed plan g → Nothing tags groups g s
+  passed-over-planned = c .seeds .passed-over
+
   -- "or, where refusal 7 names the group, lower than L": every seed below the limit is passed over then.
   pub passed-over-refused : (g : ℕ) → answer ≡ refused 7 g → (s : ℕ) → s < limit → Nothing tags groups g s
-  passed-over-refused = c .no-seed
+  passed-over-refused = c .seeds .no-seed
 
-  -- "A list that passes all earlier checks": 8, 4, 5, 6, 17, 9 and 10.
+  -- "A list that passes all earlier checks": 8, 4, 5, 6, 17 and 10, whatever the buffer.
   module _ (groups-legal : (1 ≤ groups) × (groups ≤ groupsMax)) (limit-legal : (1 ≤ limit) × (limit ≤ limitMax))
       (count-legal : length tags ≤ tagsMax)
       (ascending : (i : ℕ) → suc i < length tags → getD tags i 0 < getD tags (suc i) 0)
       (wired : 0 < length tags → 0 < getD tags 0 0)
-      (fits : 11 * (1 + groups + length tags) ≤ room)
       (small : (g : ℕ) → g < groups → length (members groups g tags) ≤ groupMax) where
-    checks : EarlierChecks tags groups limit room
+    checks : EarlierChecks tags groups limit
     checks = record {
       groups-legal = groups-legal;
       limit-legal = limit-legal;
       count-legal = count-legal;
       ascending = ascending;
       wired = wired;
-      fits = fits;
       groups-small = small;
     }
 
@@ -150,10 +152,10 @@ module _ {tags : List ℕ} {groups limit room : ℕ} {answer : Outcome ℕ} {aft
         ↔ ((g < groups) × ((s : ℕ) → s < limit → Nothing tags groups g s) × ((h : ℕ) → h < g → Seed tags groups limit h))
     refused-exactly g = (
       λ is.
-          let low = (c .refused-7 checks g) .0 is in
+          let low = (c .seeds .refused-7 checks g) .0 is in
           (low .group, low .without, λ h lt. let has = low .lower h lt in (has .seed, has .below, (has .choices, has .fills))),
       λ low.
-          (c .refused-7 checks g) .1
+          (c .seeds .refused-7 checks g) .1
           (record {
             group = low .0;
             without = low .1;
@@ -161,10 +163,24 @@ module _ {tags : List ℕ} {groups limit room : ℕ} {answer : Outcome ℕ} {aft
           }),
     )
 
-    -- where every group has one, it is accepted.
-    pub accepted-otherwise : ((g : ℕ) → g < groups → Seed tags groups limit g) → answer ≡ answered (11 * (1 + groups + length tags))
-    accepted-otherwise every =
-        c .otherwise checks (λ g low. let has = every g (low .group) in low .without (has .0) (has .1) (has .2 .0) (has .2 .1))
+    -- where every group has one, the yielded plan has a seed tried for each group, under which such a sequence exists,
+    module _ (every : (g : ℕ) → g < groups → Seed tags groups limit g) where
+      not-without : (g : ℕ) → LowestWithout groups tags limit g → ⊥
+      not-without g low = let has = every g (low .group) in low .without (has .0) (has .1) (has .2 .0) (has .2 .1)
+
+      pub planned-otherwise : (plannedGroups plan ≡ groups)
+          × ((g : ℕ) → g < groups
+          → (plannedSeed plan g < limit) × ((choices : List Bool) × Places tags groups g (plannedSeed plan g) choices))
+      planned-otherwise =
+          let serves = c .seeds .otherwise-serves checks not-without in
+          (serves .groups-are, λ g lt. (serves .below-limit g lt, ((serves .serving) g, serves .served g lt)))
+
+      -- and the list is accepted if the image fits the buffer, and refused with 9 if it does not.
+      pub accepted-otherwise : 11 * (1 + groups + length tags) ≤ room → answer ≡ answered (11 * (1 + groups + length tags))
+      accepted-otherwise = c .otherwise checks not-without
+
+      pub short-otherwise : room < 11 * (1 + groups + length tags) → answer ≡ refused 9 0
+      short-otherwise = c .too-short checks not-without
 
     -- A group has such a seed, or it has none: the search for the least decides it.
     seed-of : (g : ℕ) {s : ℕ} → leastSeed (members groups g tags) limit ≡ some s → Seed tags groups limit g
@@ -211,3 +227,10 @@ module _ {tags : List ℕ} {groups limit room : ℕ} {answer : Outcome ℕ} {aft
             → (b : Bool) → ltb h g ≡ b → g ≤ h
         not-lower lower h none-there true e = absurd (none-there (lower h (ltb-true h g e)))
         not-lower lower h none-there false e = ltb-false h g e
+
+-- Of planning by itself: a list that passes all earlier checks, each group of which has such a seed, is planned.
+pub planned-answered : {tags : List ℕ} {groups limit : ℕ} {plan : List ℕ} {answer : Outcome ℕ}
+    → PlanningCondition3 tags groups limit answer plan → EarlierChecks tags groups limit
+    → ((g : ℕ) → g < groups → Seed tags groups limit g) → answer ≡ answered groups
+planned-answered p checks every =
+    p .otherwise checks (λ g low. let has = every g (low .group) in low .without (has .0) (has .1) (has .2 .0) (has .2 .1))

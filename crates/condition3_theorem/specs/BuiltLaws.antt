@@ -33,7 +33,7 @@ use Rattle.numbering.specs.Members.{members, startOf}
 use Rattle.numbering.specs.MembersLaws.{start-zero, start-all, start-suc}
 use Rattle.numbering.specs.Number.{choiceOf, placeIn, numberOf, tagNumbered}
 use Rattle.numbering.specs.NumberLaws.{Placed, number-below, number-apart, number-onto, AllFill, ownPlace, all-placed, tagNumbered-is}
-use Rattle.numbering.specs.Building.{sheetOf}
+use Rattle.numbering.specs.Writing.{sheetOf}
 
 -- A view that reads as a sheet states.
 pub record Reads (v : View) (s : Sheet) : Type 0 where

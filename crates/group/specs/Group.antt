@@ -2,12 +2,13 @@
 use Prim.Native.Nat.{ℕ}
 use mathlib.Core.Bool.{Bool}
 use mathlib.Core.List.{List, [], map}
-use mathlib.Core.Option.{Option, Option·getD}
+use mathlib.Core.Option.{Option, Option·getD, Option·map}
 use lib.ListN.{length}
 use Rattle.lists.specs.First.{first}
 use Rattle.hash.specs.Formula.{placeOf}
 use Rattle.filling.specs.Filling.{Key}
 use Rattle.filling.specs.Least.{least, feasible}
+use Rattle.filling.specs.Word.{wordOf}
 
 -- The two candidate places of tag t among n under seed s: a key of the theory of filling.
 unfoldable pub bothPlaces : ℕ → ℕ → ℕ → Key
@@ -28,3 +29,7 @@ leastSeed tags limit = first (λ s. feasible (groupUnder tags s)) limit
 -- The choice sequence taken under a seed: "Among filling sequences the least is taken". Empty where none fills.
 unfoldable pub taken : List ℕ → ℕ → List Bool
 taken tags s = Option·getD (least (groupUnder tags s)) []
+
+-- The word of a group under a seed: the choice word of the sequence taken, where any sequence fills.
+unfoldable pub wordUnder : List ℕ → ℕ → Option ℕ
+wordUnder tags s = Option·map wordOf (least (groupUnder tags s))

@@ -1,5 +1,6 @@
 pub mod Group
 pub mod GroupLaws
+pub mod WordLaws
 pub mod Ascending
 pub mod AscendingLaws
 pub mod Unwired

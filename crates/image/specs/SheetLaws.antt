@@ -8,7 +8,7 @@ use lib.ListN.{length, length-append, List·getD-append}
 use lib.Seq.{getD-append-add}
 use Rattle.refusal.specs.Limits.{tagEnd, tagsMax, groupsMax, seedMax}
 use Rattle.text.specs.Line.{lineLength, lineAt, imageHeader, groupLine, slotLine}
-use Rattle.lists.specs.UpToLaws.{upTo-length, upTo-at}
+use Rattle.lists.specs.UpToLaws.{upTo-length, upTo-at, upTo-agree}
 use Rattle.text.specs.LineLaws.{pairLine-length, tagLine-length, Lines, upTo-lines, lines-append, flatten-length, line-flatten}
 use Rattle.text.specs.LineLaws.{image-header-line, group-line, slot-line}
 use Rattle.lists.specs.UpTo.{upTo}
@@ -77,3 +77,22 @@ module _ (s : Sheet) where
 
   pub slot-reads : (j : ℕ) → j < s .count → s .slot j < tagEnd → slotLine (lineAt (1 + s .groups + j) (bytesOf s)) ≡ some (s .slot j)
   slot-reads j lt tag = rw (slot-at j lt) (slot-line (s .slot j) tag)
+
+-- Two sheets state the same numbers: the same N and B, for each group the same start and seed, and for each slot the same tag.
+pub record Agree (s t : Sheet) : Type 0 where
+  pub count : s .count ≡ t .count
+  pub groups : s .groups ≡ t .groups
+  pub start : (g : ℕ) → g < s .groups → s .start g ≡ t .start g
+  pub seed : (g : ℕ) → g < s .groups → s .seed g ≡ t .seed g
+  pub slot : (j : ℕ) → j < s .count → s .slot j ≡ t .slot j
+
+-- Then they are one image.
+pub bytes-agree : (s t : Sheet) → Agree s t → bytesOf s ≡ bytesOf t
+unfolding bytesOf linesOf
+bytes-agree s t a =
+    rw (
+      upTo-agree (s .groups) (groupLineOf s) (groupLineOf t) (λ g lt. rw (a .start g lt, a .seed g lt)),
+      upTo-agree (s .count) (slotLineOf s) (slotLineOf t) (λ j lt. rw (a .slot j lt)),
+      a .count,
+      a .groups,
+    )

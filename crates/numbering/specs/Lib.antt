@@ -6,8 +6,17 @@ pub mod Parts
 pub mod PartsLaws
 pub mod GroupSlots
 pub mod SlotsLaws
+pub mod Plan
+pub mod Planning
+pub mod Writing
 pub mod Building
+pub mod OneCall
+pub mod PlanLaws
+pub mod PlanningLaws
+pub mod WritingLaws
 pub mod BuildingLaws
+pub mod OneCallLaws
 pub mod Examples
 pub mod FromText
+pub mod FromTextLaws
 pub mod UnwiredLaws

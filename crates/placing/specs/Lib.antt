@@ -3,4 +3,3 @@ pub mod PlacingLaws
 pub mod Condition3
 pub mod Condition3Laws
 pub mod FullGroupLaws
-pub mod PlacesLaws

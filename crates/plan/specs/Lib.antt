@@ -1,2 +1,2 @@
-pub mod Plan
-pub mod PlanLaws
+pub mod Seeds
+pub mod SeedsLaws

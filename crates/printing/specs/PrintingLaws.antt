@@ -6,39 +6,44 @@ use Prim.Native.Nat.{ℕ, _≤_, _<_}
 use native.Mathlib.Omega.{arith}
 use lib.ListN.{length, drop}
 use borrow.Author.Tests.{lt-ltb, le-ltb}
-use Rattle.refusal.specs.Outcome.{Outcome, answered, refused, answeredBy, followedBy}
+use Rattle.refusal.specs.Outcome.{Outcome, answered, refused, answeredBy, followedBy, onAnswer}
 use Rattle.lists.specs.Written.{writtenAt}
 use Rattle.lists.specs.WrittenLaws.{written-first}
 use Rattle.text.specs.Line.{lineLength, pairLine}
 use Rattle.text.specs.LineLaws.{pairLine-length}
 use Rattle.list.specs.Reading.{Listed}
 use Rattle.image.specs.Sheet.{longestImage}
-use Rattle.numbering.specs.Building.{buildingOf}
-use Rattle.numbering.specs.BuildingLaws.{image-length, building-roomy, buffer-kept, buffer-written, answered-size}
-use Rattle.numbering.specs.FromText.{listFromText, buildingFromText, bufferOfList, bufferFromText}
+use Rattle.numbering.specs.Planning.{seedTaken}
+use Rattle.numbering.specs.WritingLaws.{image-length}
+use Rattle.numbering.specs.Building.{buildingOf, bufferAfter}
+use Rattle.numbering.specs.BuildingLaws.{building-roomy, buffer-kept, buffer-written, answered-size}
+use Rattle.numbering.specs.FromText.{listFromText, buildingFromText, bufferFromText}
 use Rattle.printing.specs.Printing.{imageOfList, outputOf, printed, printedCount, printedInto}
 
 -- The output and the buffer, by what is read from the text: building is accepted,
 module _ (before : List ℕ) (enough : longestImage ≤ length before) where
+  abbrev bufferOf : Outcome Listed → List ℕ
+  bufferOf o = onAnswer o (λ listed. bufferAfter (listed .tags) (listed .groups) (listed .limit) before) before
+
   list-built : (o : Outcome Listed) {size : ℕ}
       → followedBy o (λ listed. buildingOf (listed .tags) (listed .groups) (listed .limit) (length before)) ≡ answered size
       → (length (outputOf (followedBy o imageOfList)) ≡ size)
-      × (bufferOfList o before ≡ outputOf (followedBy o imageOfList) ++ drop (length (outputOf (followedBy o imageOfList))) before)
-  unfolding followedBy imageOfList answeredBy outputOf bufferOfList
+      × (bufferOf o ≡ outputOf (followedBy o imageOfList) ++ drop (length (outputOf (followedBy o imageOfList))) before)
+  unfolding followedBy imageOfList answeredBy outputOf onAnswer
   list-built (answered listed) e =
       let tags = listed .tags in
       let groups = listed .groups in
       let limit = listed .limit in
       let same = sym (building-roomy tags groups limit (length before) enough) ∙ e in
-      let size = image-length groups tags limit ∙ sym (answered-size tags groups limit (length before) e) in
+      let size = image-length groups tags (seedTaken groups tags limit) ∙ sym (answered-size tags groups limit (length before) e) in
       rw same (size, buffer-written tags groups limit before e)
   list-built (refused number place) e = absurd (let z : _≡_ {A = ℕ} 0 1 = cc in omega arith)
 
   -- or refuses.
   list-refused : (o : Outcome Listed) {number place : ℕ}
       → followedBy o (λ listed. buildingOf (listed .tags) (listed .groups) (listed .limit) (length before)) ≡ refused number place
-      → (outputOf (followedBy o imageOfList) ≡ pairLine number place) × (bufferOfList o before ≡ before)
-  unfolding followedBy imageOfList answeredBy outputOf bufferOfList
+      → (outputOf (followedBy o imageOfList) ≡ pairLine number place) × (bufferOf o ≡ before)
+  unfolding followedBy imageOfList answeredBy outputOf onAnswer
   list-refused (answered listed) e =
       let tags = listed .tags in
       let groups = listed .groups in

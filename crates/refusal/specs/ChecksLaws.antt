@@ -82,6 +82,15 @@ abbrev pub checksBefore : ℕ → List Check → List Check
 checksBefore number [] = []
 checksBefore number (check ∷ checks) = cond (eqb (check .0) number) [] (check ∷ checksBefore number checks)
 
+-- Where all checks pass, those do.
+pub pass-before : (checks : List Check) → Pass checks → (number : ℕ) → Pass (checksBefore number checks)
+pass-before [] h number = tt
+pass-before (check ∷ checks) h number = go (eqb (check .0) number) (pass-before checks (h .1) number)
+  where
+    go : (b : Bool) → Pass (checksBefore number checks) → Pass (cond b [] (check ∷ checksBefore number checks))
+    go true later = tt
+    go false later = (h .0, later)
+
 -- And those behind it: none where there is no such check.
 abbrev pub checksBehind : ℕ → List Check → List Check
 checksBehind number [] = []

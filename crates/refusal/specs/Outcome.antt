@@ -15,3 +15,8 @@ answeredBy f (refused number place) = refused number place
 unfoldable pub followedBy : {A B : Type 0} → Outcome A → (A → Outcome B) → Outcome B
 followedBy (answered a) next = next a
 followedBy (refused number place) next = refused number place
+
+-- What an operation leaves: this, by its answer, or that where it refuses.
+unfoldable pub onAnswer : {A B : Type 0} → Outcome A → (A → B) → B → B
+onAnswer (answered a) this that = this a
+onAnswer (refused number place) this that = that

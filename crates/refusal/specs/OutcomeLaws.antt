@@ -2,7 +2,7 @@
 use mathlib.Core.Path.{_≡_, refl}
 use Prim.Native.Nat.{ℕ}
 use native.Mathlib.Omega.{arith}
-use Rattle.refusal.specs.Outcome.{Outcome, answered, refused, answeredBy, followedBy}
+use Rattle.refusal.specs.Outcome.{Outcome, answered, refused, answeredBy, followedBy, onAnswer}
 
 module _ {A B : Type 0} where
   -- An answer in another form comes from an answer,
@@ -34,3 +34,13 @@ module _ {A B : Type 0} where
       → o ≡ refused number place → followedBy o next ≡ refused number place
   unfolding followedBy
   followed-refused next e = rw e
+
+  -- What is left behind an answer, and behind a refusal.
+  pub left-answered : {o : Outcome A} {a : A} (this : A → B) (that : B) → o ≡ answered a → onAnswer o this that ≡ this a
+  unfolding onAnswer
+  left-answered this that e = rw e
+
+  pub left-refused : {o : Outcome A} {number place : ℕ} (this : A → B) (that : B)
+      → o ≡ refused number place → onAnswer o this that ≡ that
+  unfolding onAnswer
+  left-refused this that e = rw e

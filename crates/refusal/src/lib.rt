@@ -22,14 +22,17 @@ pub const TEXT_MAX: usize = 65527;
 // The tag that plant numbering reserves for an unwired point (document 02, §1): it belongs to nobody.
 pub const UNWIRED: u32 = 0;
 
-// How many cells an array has: one for each tag of a list, one for each group, one for each tag of a group.
+// How many cells an array has: one for each tag of a list, one for each group, one for each tag of a group; and for a plan, one for B
+// and one for each group.
 pub const TAG_CELLS: usize = TAGS_MAX;
 
 pub const GROUP_CELLS: usize = GROUPS_MAX as usize;
 
 pub const MEMBER_CELLS: usize = GROUP_MAX as usize;
 
-// Why an operation refuses: what is the matter with its input. Documents 01 and 02 number them 1 to 17, in this order.
+pub const PLAN_CELLS: usize = 1 + GROUP_CELLS;
+
+// Why an operation refuses: what is the matter with its input. Documents 01 and 02 number them 1 to 18, in this order.
 pub enum Reason {
     SizeOutOfRange,
     SeedOutOfRange,
@@ -50,6 +53,8 @@ pub enum Reason {
     MalformedList,
     // Tag 0 where a tank's tag is asked for.
     UnwiredTag,
+    // A plan's seed under which no choice sequence fills the group.
+    SeedDoesNotServe,
 }
 
 // A refusal: the reason, and the line, index, group or slot that it names, counted from 0; 0 where it names none.
@@ -86,6 +91,7 @@ pub fn reason_number(reason: Reason) -> u32
         Reason::RepeatedTag => 15,
         Reason::MalformedList => 16,
         Reason::UnwiredTag => 17,
+        Reason::SeedDoesNotServe => 18,
     }
 }
 

@@ -8,7 +8,7 @@ use Rattle.refusal.specs.Outcome.{Outcome, answered, refused, answeredBy}
 use Rattle.group.specs.Placing.{Placement, placingOf}
 use Rattle.image.specs.Checking.{checkingOf}
 use Rattle.image.specs.Lookup.{Found, number, unknown, lookupOf}
-use Rattle.numbering.specs.FromText.{buildingFromText}
+use Rattle.numbering.specs.FromText.{planningFromText, writingFromText, buildingFromText}
 
 -- "Each call answers one 64-bit number: the length, the tag's number or 0 for an accepted check; 4,294,967,295 for unknown; and for
 -- a refusal its number × 2^32 plus its place."
@@ -24,7 +24,14 @@ unfoldable pub foundNumber : Found → ℕ
 foundNumber (number j) = j
 foundNumber unknown = 4294967295
 
--- The calls. Building takes a list text and a buffer of `room` bytes.
+-- The calls. Planning takes a list text and answers B; writing takes a list text, a plan and a buffer of `room` bytes, building a list
+-- text and such a buffer, and both answer the length.
+unfoldable pub planAnswer : List ℕ → ℕ
+planAnswer text = answer64 (planningFromText text)
+
+unfoldable pub writeAnswer : List ℕ → List ℕ → ℕ → ℕ
+writeAnswer text plan room = answer64 (writingFromText text plan room)
+
 unfoldable pub buildAnswer : List ℕ → ℕ → ℕ
 buildAnswer text room = answer64 (buildingFromText text room)
 

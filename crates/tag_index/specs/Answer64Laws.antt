@@ -1,4 +1,4 @@
--- The 64-bit answers keep apart all outcomes that the three functions can come to: an answer is taken apart into its outcome.
+-- The 64-bit answers keep apart all outcomes that the functions can come to: an answer is taken apart into its outcome.
 -- Assumes nothing.
 use mathlib.Core.Path.{_≡_, refl, sym, _∙_, ap}
 use mathlib.Core.Bool.{not}
@@ -20,11 +20,16 @@ use Rattle.image.specs.Lookup.{Found, number, unknown, groupChecks, lookupCheck
 use Rattle.image.specs.SheetLaws.{longest-is}
 use Rattle.image.specs.CheckedLookupLaws.{count-most}
 use Rattle.image.specs.LookupLaws.{lookup-any}
-use Rattle.numbering.specs.Building.{earlierChecks, buildingChecks, buildingOf}
+use Rattle.numbering.specs.Planning.{earlierChecks, planningChecks, planningOf}
+use Rattle.numbering.specs.PlanningLaws.{planning-says, earlier-groups}
+use Rattle.numbering.specs.Writing.{writingChecks, writingOf}
+use Rattle.numbering.specs.WritingLaws.{written-most}
+use Rattle.numbering.specs.Building.{buildingOf}
 use Rattle.numbering.specs.BuildingLaws.{answered-most}
-use Rattle.numbering.specs.FromText.{listFromText, buildingFromText}
-use Rattle.from_text.specs.PlaceLaws.{textLines, from-text-place}
-use Rattle.tag_index.specs.Answer64.{answer64, outcome64, foundNumber, buildAnswer, checkAnswer, lookupAnswer}
+use Rattle.numbering.specs.FromText.{listFromText, planningFromText, writingFromText, buildingFromText}
+use Rattle.from_text.specs.PlaceLaws.{textLines, plan-text-place, write-text-place, from-text-place}
+use Rattle.tag_index.specs.Answer64.{answer64, outcome64, foundNumber, planAnswer, writeAnswer, buildAnswer}
+use Rattle.tag_index.specs.Answer64.{checkAnswer, lookupAnswer}
 use Rattle.tag_index.specs.PlaceLaws.{imageLines, checking-place, lookup-place}
 
 -- An outcome that fits 64 bits: an answer below 2^32, or a number that is not 0 and a place below 2^32.
@@ -42,7 +47,15 @@ outcome-answer (refused reason place) (some-reason, below) =
     let rest : (reason * tagEnd + place) % tagEnd ≡ place = omega arith in
     rw (le-ltb (reason * tagEnd + place) tagEnd high, quotient, rest)
 
--- so that two of them have two answers.
+-- so that what holds of the outcome holds of what the answer is taken apart into,
+pub promised64 : (o : Outcome ℕ) → Fits o → (holds : Outcome ℕ → Type 0) {outcome : Outcome ℕ} {r : ℕ} → outcome ≡ o
+    → r ≡ answer64 outcome → holds outcome → (r ≡ answer64 o) × holds (outcome64 r)
+promised64 o fits holds told answer h =
+    let of-outcome = answer ∙ ap answer64 told in
+    let taken-apart = ap outcome64 of-outcome ∙ outcome-answer o fits ∙ sym told in
+    (of-outcome, rw taken-apart h)
+
+-- and two of them have two answers.
 pub answers-apart : (o p : Outcome ℕ) → Fits o → Fits p → answer64 o ≡ answer64 p → o ≡ p
 answers-apart o p fo fp e = sym (outcome-answer o fo) ∙ ap outcome64 e ∙ outcome-answer p fp
 
@@ -50,28 +63,72 @@ fits-of : (bound : ℕ) (o : Outcome ℕ) → bound ≤ tagEnd → PlaceBelow bo
 fits-of bound (answered n) le place numbered below = below n refl
 fits-of bound (refused reason place) le low numbered below = (numbered, omega arith)
 
--- Every refusal of building from a text has a number, and a length is at most 50,699.
-build-numbered : (text : List ℕ) (room : ℕ) → Numbered (buildingFromText text room)
-unfolding buildingFromText listFromText readingOf readingChecks buildingOf buildingChecks earlierChecks
-build-numbered text room =
-    numbered-followed (listFromText text) _
-    (numbered-checks _ (readingOf text tagsMax) refl (numbered-checks (readingChecks text tagsMax) _ refl tt))
-    (λ listed. numbered-checks (buildingChecks (listed .tags) (listed .groups) (listed .limit) room) _ refl tt)
+-- Every refusal of planning, of writing and of building from a text has a number, B is at most 512, and a length at most 50,699.
+list-numbered : (text : List ℕ) → Numbered (listFromText text)
+unfolding listFromText readingOf readingChecks
+list-numbered text = numbered-checks _ (readingOf text tagsMax) refl (numbered-checks (readingChecks text tagsMax) _ refl tt)
 
-build-small : (text : List ℕ) (room n : ℕ) → buildingFromText text room ≡ answered n → n < tagEnd
-unfolding buildingFromText followedBy
-build-small text room n = go (listFromText text)
+planning-numbered : (tags : List ℕ) (groups limit : ℕ) → Numbered (planningOf tags groups limit)
+unfolding planningOf planningChecks earlierChecks
+planning-numbered tags groups limit = numbered-checks (planningChecks tags groups limit) _ refl tt
+
+writing-numbered : (tags plan : List ℕ) (room : ℕ) → Numbered (writingOf tags plan room)
+unfolding writingOf writingChecks
+writing-numbered tags plan room = numbered-checks (writingChecks tags plan room) _ refl tt
+
+-- What is answered for the list that a text states, where the text is read.
+answered-read : (text : List ℕ) (next : Listed → Outcome ℕ) {n : ℕ} → followedBy (listFromText text) next ≡ answered n
+    → (listed : Listed) × (next listed ≡ answered n)
+unfolding followedBy
+answered-read text next {n} = go (listFromText text)
   where
-    go : (o : Outcome Listed)
-        → followedBy o (λ listed. buildingOf (listed .tags) (listed .groups) (listed .limit) room) ≡ answered n → n < tagEnd
-    go (answered listed) e = omega (arith, answered-most (listed .tags) (listed .groups) (listed .limit) room e, longest-is)
+    go : (o : Outcome Listed) → followedBy o next ≡ answered n → (listed : Listed) × (next listed ≡ answered n)
+    go (answered listed) e = (listed, e)
     go (refused reason place) e = absurd (let z : _≡_ {A = ℕ} 0 1 = cc in omega arith)
 
--- So every outcome of building from a text fits,
+-- So every outcome of planning from a text fits,
+pub plan-fits : (text : List ℕ) → Fits (planningFromText text)
+unfolding planningFromText
+plan-fits text =
+    fits-of textLines (planningFromText text) (omega arith) (plan-text-place text)
+    (numbered-followed (listFromText text) _ (list-numbered text)
+    (λ listed. planning-numbered (listed .tags) (listed .groups) (listed .limit)))
+    small
+  where
+    small : (n : ℕ) → planningFromText text ≡ answered n → n < tagEnd
+    small n e =
+        let (listed, told) = answered-read text _ e in
+        let (passes, every, is) = planning-says (listed .tags) (listed .groups) (listed .limit) told in
+        omega (arith, is, earlier-groups (listed .tags) (listed .groups) (listed .limit) passes)
+
+-- every outcome of writing,
+pub write-fits : (text plan : List ℕ) (room : ℕ) → Fits (writingFromText text plan room)
+unfolding writingFromText
+write-fits text plan room =
+    fits-of textLines (writingFromText text plan room) (omega arith) (write-text-place text plan room)
+    (numbered-followed (listFromText text) _ (list-numbered text) (λ listed. writing-numbered (listed .tags) plan room))
+    small
+  where
+    small : (n : ℕ) → writingFromText text plan room ≡ answered n → n < tagEnd
+    small n e =
+        let (listed, told) = answered-read text _ e in
+        omega (arith, written-most (listed .tags) plan room told, longest-is)
+
+-- every outcome of building,
 pub build-fits : (text : List ℕ) (room : ℕ) → Fits (buildingFromText text room)
+unfolding buildingFromText buildingOf
 build-fits text room =
-    fits-of textLines (buildingFromText text room) (omega arith)
-    (from-text-place text room) (build-numbered text room) (build-small text room)
+    fits-of textLines (buildingFromText text room) (omega arith) (from-text-place text room)
+    (numbered-followed (listFromText text) _ (list-numbered text)
+    (λ listed.
+    numbered-followed (planningOf (listed .tags) (listed .groups) (listed .limit)) _
+    (planning-numbered (listed .tags) (listed .groups) (listed .limit)) (λ planned. writing-numbered (listed .tags) _ room)))
+    small
+  where
+    small : (n : ℕ) → buildingFromText text room ≡ answered n → n < tagEnd
+    small n e =
+        let (listed, told) = answered-read text _ e in
+        omega (arith, answered-most (listed .tags) (listed .groups) (listed .limit) room told, longest-is)
 
 -- every outcome of checking,
 pub check-fits : (image : List ℕ) → Fits (checkingOf image)
@@ -131,7 +188,18 @@ found-apart (answered f) (refused reason place) so sp e = absurd (let z : _≡_ 
 found-apart (refused reason place) (answered f) so sp e = absurd (let z : _≡_ {A = ℕ} 0 1 = cc in omega arith)
 found-apart (refused reason place) (refused reason′ place′) so sp e = cc
 
--- Calls with one answer came to one outcome: building,
+-- Calls with one answer came to one outcome: planning,
+pub plan-apart : (text text′ : List ℕ) → planAnswer text ≡ planAnswer text′ → planningFromText text ≡ planningFromText text′
+unfolding planAnswer
+plan-apart text text′ = answers-apart _ _ (plan-fits text) (plan-fits text′)
+
+-- writing,
+pub write-apart : (text text′ plan plan′ : List ℕ) (room room′ : ℕ) → writeAnswer text plan room ≡ writeAnswer text′ plan′ room′
+    → writingFromText text plan room ≡ writingFromText text′ plan′ room′
+unfolding writeAnswer
+write-apart text text′ plan plan′ room room′ = answers-apart _ _ (write-fits text plan room) (write-fits text′ plan′ room′)
+
+-- building,
 pub build-apart : (text text′ : List ℕ) (room room′ : ℕ) → buildAnswer text room ≡ buildAnswer text′ room′
     → buildingFromText text room ≡ buildingFromText text′ room′
 unfolding buildAnswer

@@ -1,12 +1,13 @@
 -- "Tag 0 belongs to nobody", over the C boundary: a list text that states it and an image that holds it are refused, and looking it
 -- up gives no number. An answer from 2^32 on is a refusal. Assumes nothing.
-use mathlib.Core.Path.{_≡_, refl}
+use mathlib.Core.Path.{_≡_, refl, sym, _∙_}
 use mathlib.Core.Bool.{true}
 use mathlib.Core.List.{List}
 use Prim.Native.Nat.{ℕ, _≤_, _<_}
 use native.Mathlib.Omega.{arith}
 use Rattle.refusal.specs.Limits.{tagEnd, unwired}
 use Rattle.refusal.specs.Outcome.{Outcome, answered, refused, answeredBy}
+use Rattle.refusal.specs.OutcomeLaws.{followed-answered}
 use Rattle.lists.specs.Occurs.{occurs}
 use Rattle.lists.specs.OccursLaws.{occurs-not}
 use Rattle.list.specs.Reading.{Listed}
@@ -15,16 +16,32 @@ use Rattle.image.specs.Holds.{SlotHolds}
 use Rattle.image.specs.Lookup.{Found, number, unknown, lookupOf}
 use Rattle.image.specs.CheckedLookupLaws.{checked-wired}
 use Rattle.image.specs.UnwiredLaws.{unwired-unanswered}
-use Rattle.numbering.specs.FromText.{listFromText, buildingFromText}
-use Rattle.numbering.specs.UnwiredLaws.{from-text-wired}
-use Rattle.tag_index.specs.Answer64.{answer64, foundNumber, buildAnswer, checkAnswer, lookupAnswer}
-use Rattle.tag_index.specs.Answer64Laws.{Fits, build-fits, check-fits, lookup-fits}
+use Rattle.numbering.specs.FromText.{listFromText, planningFromText, writingFromText, buildingFromText}
+use Rattle.numbering.specs.UnwiredLaws.{planning-wired, writing-wired, from-text-wired}
+use Rattle.tag_index.specs.Answer64.{answer64, foundNumber, planAnswer, writeAnswer, buildAnswer, checkAnswer, lookupAnswer}
+use Rattle.tag_index.specs.Answer64Laws.{Fits, plan-fits, write-fits, build-fits, check-fits, lookup-fits}
 
 -- An outcome that is no answer is a refusal.
 refusal-above : (o : Outcome ℕ) → Fits o → ((n : ℕ) → o ≡ answered n → ⊥) → tagEnd ≤ answer64 o
 unfolding answer64
 refusal-above (answered n) fits never = absurd (never n refl)
 refusal-above (refused reason place) (some-reason, below) never = omega arith
+
+pub plan-unwired : (text : List ℕ) {listed : Listed} → listFromText text ≡ answered listed
+    → occurs unwired (listed .tags) ≡ true → tagEnd ≤ planAnswer text
+unfolding planAnswer planningFromText
+plan-unwired text {listed} read there =
+    refusal-above (planningFromText text) (plan-fits text)
+    (λ planned e.
+    occurs-not unwired (listed .tags) there
+    (planning-wired (listed .tags) (listed .groups) (listed .limit) (sym (followed-answered _ read) ∙ e)))
+
+pub write-unwired : (text plan : List ℕ) (room : ℕ) {listed : Listed} → listFromText text ≡ answered listed
+    → occurs unwired (listed .tags) ≡ true → tagEnd ≤ writeAnswer text plan room
+unfolding writeAnswer writingFromText
+write-unwired text plan room {listed} read there =
+    refusal-above (writingFromText text plan room) (write-fits text plan room)
+    (λ size e. occurs-not unwired (listed .tags) there (writing-wired (listed .tags) plan room (sym (followed-answered _ read) ∙ e)))
 
 pub build-unwired : (text : List ℕ) (room : ℕ) {listed : Listed} → listFromText text ≡ answered listed
     → occurs unwired (listed .tags) ≡ true → tagEnd ≤ buildAnswer text room

@@ -4,16 +4,19 @@ use building::BuildAnswer;
 use checking::CheckAnswer;
 use lookup::LookupAnswer;
 use placing::PlacingAnswer;
+use planning::PlanAnswer;
 use refusal::Refusal;
+use writing::WriteAnswer;
 ghost use mathlib.Core.Path.{_≡_};
 ghost use Prim.Native.Nat.{_<_};
 ghost use lib.ListN.{length};
 ghost use Rattle.refusal.specs.Limits.{tagEnd};
 ghost use Rattle.refusal.specs.Reason.{refusalOf};
-ghost use Rattle.numbering.specs.FromText.{bufferFromText};
-ghost use Rattle.tag_index.specs.Answer64.{answer64, buildAnswer, checkAnswer, lookupAnswer, placeAnswer, wordAfter};
+ghost use Rattle.numbering.specs.FromText.{planFromText, writtenFromText, bufferFromText};
+ghost use Rattle.tag_index.specs.Answer64.{answer64, planAnswer, writeAnswer, buildAnswer, checkAnswer, lookupAnswer};
+ghost use Rattle.tag_index.specs.Answer64.{placeAnswer, wordAfter};
 ghost use Rattle.tag_index.specs.Condition2.{AnswerCondition2};
-ghost use Rattle.tag_index.specs.Condition3.{BuildCondition3, PlaceCondition3};
+ghost use Rattle.tag_index.specs.Condition3.{PlanCondition3, WriteCondition3, BuildCondition3, PlaceCondition3};
 
 // Builds the image of a list text at the beginning of `image`, and answers its length.
 #[no_mangle]
@@ -25,6 +28,32 @@ pub extern "C" fn tag_index_build(text: &[u8], image: &mut [u8]) -> u64
     match from_text::build_from_text(text, image) {
         BuildAnswer::Built(size) => size as u64,
         BuildAnswer::Refused(refusal) => refusal_answer(refusal),
+    }
+}
+
+// Plans the list of a list text, and answers B. `plan` is left with B and then the seed of each group; a refusal leaves zeros.
+#[no_mangle]
+pub extern "C" fn tag_index_plan(text: &[u8], plan: &mut [u32; 513]) -> u64
+    ensures answer { λ r. ⌜ r ≡ planAnswer (now (text .entry)) ⌝ }
+    ensures plan { λ _. ⌜ now (plan .exit) ≡ planFromText (now (text .entry)) ⌝ }
+    ensures condition3 { λ r. ⌜ PlanCondition3 (now (text .entry)) r (now (plan .exit)) ⌝ }
+{
+    match from_text::plan_from_text(text, plan) {
+        PlanAnswer::Planned(groups) => groups as u64,
+        PlanAnswer::Refused(refusal) => refusal_answer(refusal),
+    }
+}
+
+// Writes the image of the tags of a list text under any plan at the beginning of `image`, and answers its length.
+#[no_mangle]
+pub extern "C" fn tag_index_write(text: &[u8], plan: &[u32; 513], image: &mut [u8]) -> u64
+    ensures answer { λ r. ⌜ r ≡ writeAnswer (now (text .entry)) (now (plan .entry)) (length (now (image .entry))) ⌝ }
+    ensures bytes { λ _. ⌜ now (image .exit) ≡ writtenFromText (now (text .entry)) (now (plan .entry)) (now (image .entry)) ⌝ }
+    ensures condition3 { λ r. ⌜ WriteCondition3 (now (text .entry)) (now (plan .entry)) r (now (image .exit)) ⌝ }
+{
+    match from_text::write_from_text(text, plan, image) {
+        WriteAnswer::Written(size) => size as u64,
+        WriteAnswer::Refused(refusal) => refusal_answer(refusal),
     }
 }
 

@@ -12,7 +12,8 @@ use Rattle.group.specs.Group.{groupUnder, taken}
 use Rattle.group.specs.Placing.{Placement, placingOf}
 use Rattle.image.specs.Sheet.{imageLength}
 use Rattle.numbering.specs.Number.{numberOf}
-use Rattle.numbering.specs.Building.{seedTaken, choicesTaken, buildingOf, bufferAfter}
+use Rattle.numbering.specs.Planning.{seedTaken}
+use Rattle.numbering.specs.Building.{choicesTaken, buildingOf, bufferAfter}
 
 -- One thing that a line states of a list of tags, of a group count or of a tag.
 pub data Claim : Type 0 where

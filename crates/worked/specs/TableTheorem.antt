@@ -1,5 +1,5 @@
 -- The starred theorem: every row of the table holds. Assumes nothing.
-use mathlib.Core.Path.{_≡_, refl, subst}
+use mathlib.Core.Path.{_≡_, refl, _∙_, subst}
 use mathlib.Core.Bool.{false}
 use mathlib.Core.List.{List, [], flatten}
 use mathlib.Core.Option.{some, orElse}
@@ -10,6 +10,7 @@ use borrow.Author.Tests.{le-ltb}
 use Rattle.refusal.specs.Limits.{limitMax, groupsMax, outside}
 use Rattle.refusal.specs.LimitsLaws.{outside-not}
 use Rattle.lists.specs.First.{first, metAt, isSome}
+use Rattle.refusal.specs.Outcome.{followedBy, onAnswer}
 use Rattle.refusal.specs.Checks.{met, inOrder}
 use Rattle.hash.specs.Formula.{product, highPart, hashed, groupOf, multiplier, placeOf}
 use Rattle.hash.specs.OneTag.{oneTagChecks, placeOfOneTag}
@@ -28,8 +29,11 @@ use Rattle.lists.specs.UpTo.{upTo}
 use Rattle.image.specs.Sheet.{linesOf, bytesOf, imageLength}
 use Rattle.numbering.specs.Members.{select, members, startOf}
 use Rattle.numbering.specs.Number.{choiceOf, placeIn, numberOf, tagNumbered}
-use Rattle.numbering.specs.Building.{sheetOf, seedTaken, choicesTaken, imageOf, earlierChecks, buildingChecks, buildingOf, written}
-use Rattle.numbering.specs.Building.{bufferAfter}
+use Rattle.numbering.specs.Plan.{planOf, plannedGroups, plannedSeed}
+use Rattle.numbering.specs.Planning.{earlierChecks, planningChecks, planningOf, seedTaken, planAfter}
+use Rattle.numbering.specs.Writing.{sheetOf, choicesUnder, imageUnder, writingChecks, writingOf, plannedImage, written, bufferWritten}
+use Rattle.numbering.specs.Building.{buildingOf, bufferAfter}
+use Rattle.numbering.specs.BuildingLaws.{building-in-order, buffer-after}
 use Rattle.worked.specs.Row.{Claim, Holds, AllHold, RowHolds, Every}
 use Rattle.worked.specs.UnreachedLaws.{place-never-one}
 use Rattle.worked.specs.Table.{value1, value2, value3, value4, value5, value6, value7, value8, value9, table}
@@ -45,7 +49,8 @@ unfolding AllHold Holds metAt isSome met inOrder orElse product highPart hashed 
     oneTagChecks placeOfOneTag occurs distinct placeBy chosen beginning leastFrom least feasible choiceNumber wordOf
     bothPlaces candidates taken notAbove startsUnwired placingChecks placementOf placingOf imageLength
     select members startOf choiceOf placeIn numberOf tagNumbered leading figure pairLine flatten upTo linesOf bytesOf
-    sheetOf seedTaken choicesTaken imageOf buildingChecks earlierChecks buildingOf written bufferAfter
+    followedBy onAnswer planOf plannedGroups plannedSeed earlierChecks planningChecks planningOf seedTaken planAfter sheetOf
+    choicesUnder imageUnder writingChecks writingOf plannedImage written bufferWritten buildingOf bufferAfter
 computed = 0
 
 -- B = 1 is a legal group count.
@@ -59,7 +64,7 @@ row1 = holds-only 1 (value1 .claims) (refl, (refl, (refl, tt)))
 
 row2 : RowHolds value2
 unfolding computed first outside leastSeed
-row2 = holds-only 1 (value2 .claims) (refl, ((λ room fits. rw (le-ltb room 44 fits)), tt))
+row2 = holds-only 1 (value2 .claims) (refl, ((λ room fits. refl), tt))
 
 row3 : RowHolds value3
 unfolding computed first outside leastSeed
@@ -86,8 +91,13 @@ unfolding computed RowHolds first
 row7 limit from upto =
     let legal : outside 1 limitMax limit ≡ false = outside-not 1 limitMax limit from upto in
     let seeded : leastSeed [] limit ≡ some 0 = leastSeed-empty limit from in (
-      (λ room fits. rw (one-group, legal, le-ltb room 22 fits, seeded)),
-      ((λ before fits. rw (one-group, legal, le-ltb (length before) 22 fits, seeded)), tt),
+      (λ room fits. building-in-order [] 1 limit room ∙ rw (one-group, legal, seeded, le-ltb room 22 fits)),
+      (
+        (λ before fits.
+            buffer-after [] 1 limit before
+            ∙ rw (building-in-order [] 1 limit (length before), one-group, legal, seeded, le-ltb (length before) 22 fits)),
+        tt,
+      ),
     )
 
 row8 : RowHolds value8

@@ -6,7 +6,7 @@ use mathlib.Core.Option.{orElse}
 use Prim.Native.Nat.{ℕ}
 use lib.ListN.{take, set}
 use Rattle.refusal.specs.Limits.{outside}
-use Rattle.refusal.specs.Outcome.{answered, refused, answeredBy, followedBy}
+use Rattle.refusal.specs.Outcome.{answered, refused, answeredBy, followedBy, onAnswer}
 use Rattle.lists.specs.First.{first, metAt, isSome}
 use Rattle.refusal.specs.Checks.{met, inOrder}
 use Rattle.hash.specs.Formula.{product, highPart, hashed, groupOf, multiplier, placeOf}
@@ -29,7 +29,10 @@ use Rattle.image.specs.Checking.{checkingChecks, checkingOf}
 use Rattle.image.specs.Lookup.{number, unknown, groupChecks, lookupChecks, atSlot, lookupInGroup, lookupOf}
 use Rattle.numbering.specs.Members.{select, members, startOf}
 use Rattle.numbering.specs.Number.{choiceOf, placeIn, numberOf, tagNumbered}
-use Rattle.numbering.specs.Building.{sheetOf, seedTaken, choicesTaken, imageOf, earlierChecks, buildingChecks, buildingOf}
+use Rattle.numbering.specs.Plan.{planOf, plannedGroups, plannedSeed}
+use Rattle.numbering.specs.Planning.{earlierChecks, planningChecks, planningOf, seedTaken, planAfter}
+use Rattle.numbering.specs.Writing.{sheetOf, choicesUnder, imageUnder, writingChecks, writingOf}
+use Rattle.numbering.specs.Building.{buildingOf}
 use Rattle.numbering.specs.FromText.{listFromText, buildingFromText}
 use Rattle.printing.specs.Printing.{imageOfList, outputOf, printed}
 use Rattle.tag_index.specs.Answer64.{answer64, foundNumber, buildAnswer, checkAnswer, lookupAnswer}
@@ -43,7 +46,8 @@ unfolding flatten orElse outside answeredBy followedBy first metAt isSome met in
     listedIn readingChecks readingOf upTo linesOf bytesOf imageLength longestImage viewOf countIn groupsIn startIn seedIn slotLineIn
     slotIn endIn faulty candidateIn openingChecks malformedIn groupOfSlot holdsUnwired misplaced repeated numberChecks
     checkingChecks checkingOf groupChecks lookupChecks atSlot lookupInGroup lookupOf select members startOf choiceOf
-    placeIn numberOf tagNumbered sheetOf seedTaken choicesTaken imageOf buildingChecks earlierChecks buildingOf
+    placeIn numberOf tagNumbered onAnswer planOf plannedGroups plannedSeed earlierChecks planningChecks planningOf seedTaken
+    planAfter sheetOf choicesUnder imageUnder writingChecks writingOf buildingOf
     listFromText buildingFromText imageOfList outputOf printed answer64 foundNumber buildAnswer checkAnswer lookupAnswer
 computed = 0
 

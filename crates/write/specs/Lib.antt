@@ -1,4 +1,2 @@
 pub mod Stated
 pub mod StatedLaws
-pub mod Planned
-pub mod PlannedLaws

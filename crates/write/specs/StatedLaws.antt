@@ -1,4 +1,4 @@
--- The lines that arrays state, and sheets that agree. Assumes nothing.
+-- The lines that arrays state. Assumes nothing.
 use Prim.Native.Nat.{ℕ, zero, suc, _+_, _-_, _≤_, _<_}
 use mathlib.Core.Path.{_≡_, refl, _∙_, ap}
 use mathlib.Core.Bool.{Bool, true, false, cond}
@@ -10,29 +10,10 @@ use borrow.Author.Tests.{lt-ltb, le-ltb}
 use Rattle.text.specs.Line.{lineLength, pairLine, tagLine}
 use Rattle.text.specs.LineLaws.{pairLine-length, tagLine-length}
 use Rattle.lists.specs.UpTo.{upTo}
-use Rattle.image.specs.Sheet.{Sheet, groupLineOf, slotLineOf, linesOf, bytesOf}
+use Rattle.image.specs.Sheet.{linesOf, bytesOf}
 use Rattle.lists.specs.UpToLaws.{upTo-append, upTo-agree}
 use Rattle.numbering.specs.Parts.{partStart}
 use Rattle.write.specs.Stated.{statedSheet, statedLine}
-
--- Two sheets state the same numbers: the same N and B, for each group the same start and seed, and for each slot the same tag.
-pub record Agree (s t : Sheet) : Type 0 where
-  pub count : s .count ≡ t .count
-  pub groups : s .groups ≡ t .groups
-  pub start : (g : ℕ) → g < s .groups → s .start g ≡ t .start g
-  pub seed : (g : ℕ) → g < s .groups → s .seed g ≡ t .seed g
-  pub slot : (j : ℕ) → j < s .count → s .slot j ≡ t .slot j
-
--- Then they are one image.
-pub bytes-agree : (s t : Sheet) → Agree s t → bytesOf s ≡ bytesOf t
-unfolding bytesOf linesOf
-bytes-agree s t a =
-    rw (
-      upTo-agree (s .groups) (groupLineOf s) (groupLineOf t) (λ g lt. rw (a .start g lt, a .seed g lt)),
-      upTo-agree (s .count) (slotLineOf s) (slotLineOf t) (λ j lt. rw (a .slot j lt)),
-      a .count,
-      a .groups,
-    )
 
 module _ (ends seeds slots : List ℕ) (groups count : ℕ) where
   abbrev line : ℕ → List ℕ

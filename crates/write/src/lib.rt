@@ -1,4 +1,4 @@
-// The image of tags that are ordered by group, under given seeds: line 0, the group lines, the slot lines.
+// The image that arrays state: line 0, the group lines, the slot lines.
 ghost use mathlib.Core.Path.{_≡_};
 ghost use mathlib.Core.List.{_++_};
 ghost use Prim.Native.Nat.{_+_, _*_, _≤_, _<_};
@@ -7,29 +7,7 @@ ghost use Rattle.text.specs.Line.{lineLength};
 ghost use Rattle.image.specs.Sheet.{bytesOf, imageLength};
 ghost use Rattle.numbering.specs.Parts.{partStart};
 ghost use Rattle.write.specs.Stated.{statedSheet, statedLine, EndsSmall, Writable};
-ghost use Rattle.write.specs.Planned.{plannedSheet, Planned};
 ghost use Rattle.lists.specs.Written.{writtenAt};
-
-// Writes the image of tags that are ordered by group, under the seeds and words that were planned for the groups: the tags of each
-// group go into the order of their places, and then all lines are written. The bytes after the image stay.
-pub fn write_image(
-    ordered: &[u32],
-    ends: &[usize],
-    seeds: &[u32],
-    words: &[u32],
-    groups: usize,
-    count: usize,
-    buffer: &mut [u8],
-)
-    requires { ⌜ Planned (now ordered) (now ends) (now seeds) (now words) groups count (length (now buffer)) ⌝ }
-    ensures bytes { λ _. ⌜ now (buffer .exit)
-        ≡ bytesOf (plannedSheet (now (ordered .entry)) (now (ends .entry)) (now (seeds .entry)) groups count)
-        ++ drop (imageLength groups count) (now (buffer .entry)) ⌝ }
-{
-    let mut slots = [0u32; refusal::TAG_CELLS];
-    arrange::arrange(ordered, ends, seeds, words, groups, &mut slots);
-    write_lines(ends, seeds, &slots, groups, count, buffer);
-}
 
 // Writes the image that the arrays state, line after line; the bytes after it stay.
 pub fn write_lines(

@@ -120,6 +120,13 @@ pub fn built() -> Vec<Case> {
     ]
 }
 
+/// Lists that are planned, and written under their plan: the random ones of 4,096 tags.
+pub fn planned() -> Vec<Case> {
+    let mut cases = built();
+    cases.retain(|case| ["512-random", "171-random", "128-random"].contains(&case.name));
+    cases
+}
+
 /// One group that no seed serves, so that all of them are tried.
 ///
 /// The tags are multiples of 2^28, 2^27 or 2^26, so their places under a seed depend on the seed's
@@ -245,7 +252,7 @@ pub fn passing(tags: &[u32]) -> usize {
 
 #[cfg(test)]
 mod tests {
-    use super::{built, passing, unserved, LARGEST_GROUP, LIMIT};
+    use super::{built, passing, planned, unserved, LARGEST_GROUP, LIMIT};
     use crate::plain::place_group;
 
     #[test]
@@ -261,6 +268,14 @@ mod tests {
                 case.title
             );
         }
+    }
+
+    #[test]
+    fn lists_of_4_096_tags_are_planned_in_512_171_and_128_groups() {
+        let cases = planned();
+        assert!(cases.iter().all(|case| case.tags.len() == 4_096));
+        let groups: Vec<u32> = cases.iter().map(|case| case.groups).collect();
+        assert_eq!(groups, [512, 171, 128]);
     }
 
     #[test]

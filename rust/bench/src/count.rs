@@ -7,12 +7,12 @@ use crate::cases::{self, Case, LIMIT};
 use crate::versions::{Version, BOTH, PLAIN};
 use random::Random;
 use std::hint::black_box;
-use tag_index::LONGEST_IMAGE;
+use tag_index::{LONGEST_IMAGE, PLAN_CELLS};
 
 /// Lookups in a repetition.
 const LOOKUPS: usize = 1_000;
 
-const OPERATIONS: [&str; 5] = ["build", "check", "hits", "misses", PLACE];
+const OPERATIONS: [&str; 7] = ["build", "plan", "write", "check", "hits", "misses", PLACE];
 
 /// The operation that takes groups and no list.
 const PLACE: &str = "place";
@@ -33,11 +33,14 @@ pub fn print_cases() {
 
 /// The cases that an operation on lists takes.
 fn cases_of(operation: &str) -> Vec<Case> {
-    let mut cases = cases::built();
-    if operation == "build" {
-        cases.extend(cases::unserved());
+    match operation {
+        "build" => cases::built()
+            .into_iter()
+            .chain(cases::unserved())
+            .collect(),
+        "plan" | "write" => cases::planned(),
+        _ => cases::built(),
     }
-    cases
 }
 
 pub fn run(case: &str, version: &str, repetitions: &str) -> Result<(), String> {
@@ -81,18 +84,45 @@ fn repeat_placing(groups: &[Vec<u32>], version: Version, repetitions: u32) {
     }
 }
 
+/// Runs an operation on a list, or on its image.
 fn repeat(operation: &str, case: &Case, version: Version, repetitions: u32) {
-    let text = case.text();
+    let text = &case.text()[..];
     let mut buffer = vec![b'.'; LONGEST_IMAGE];
-    if operation == "build" {
-        for _ in 0..repetitions {
-            black_box((version.build)(black_box(&text), black_box(&mut buffer)));
+    let mut plan = [0; PLAN_CELLS];
+    match operation {
+        "build" => {
+            for _ in 0..repetitions {
+                black_box((version.build)(black_box(text), black_box(&mut buffer)));
+            }
         }
-        return;
+        "plan" => {
+            for _ in 0..repetitions {
+                black_box((version.plan)(black_box(text), black_box(&mut plan)));
+            }
+        }
+        "write" => {
+            let groups = (PLAIN.plan)(text, &mut plan);
+            assert_eq!(groups, case.groups.into(), "{} is not planned", case.title);
+            for _ in 0..repetitions {
+                let buffer = black_box(&mut buffer);
+                black_box((version.write)(black_box(text), black_box(&plan), buffer));
+            }
+        }
+        _ => {
+            let length = (PLAIN.build)(text, &mut buffer);
+            assert_eq!(length >> 32, 0, "{} is not built", case.title);
+            repeat_on_image(
+                operation,
+                case,
+                &buffer[..length as usize],
+                version,
+                repetitions,
+            );
+        }
     }
-    let length = (PLAIN.build)(&text, &mut buffer);
-    assert_eq!(length >> 32, 0, "{} is not built", case.title);
-    let image = &buffer[..length as usize];
+}
+
+fn repeat_on_image(operation: &str, case: &Case, image: &[u8], version: Version, repetitions: u32) {
     let mut random = Random::new(3);
     let mut queries = match operation {
         "misses" => case.absent(&mut random),

@@ -1,5 +1,5 @@
-//! Building, checking and lookup of each case, and placing: every version's time, with its results
-//! asserted.
+//! Building, checking and lookup of each case, planning, writing and placing: every version's time,
+//! with its results asserted.
 
 use crate::cases::{self, Case, Groups, LIMIT};
 use crate::timing::{measure, median, print as print_samples, time, Sample, Timed, REPETITIONS};
@@ -8,10 +8,13 @@ use random::Random;
 use std::collections::HashMap;
 use std::hint::black_box;
 use std::time::{Duration, Instant};
-use tag_index::LONGEST_IMAGE;
+use tag_index::{LONGEST_IMAGE, PLAN_CELLS};
 
-/// What stands in a buffer before a build.
+/// What stands in a buffer before a build or a writing.
 const CLEARED: u8 = b'.';
+
+/// What stands in every cell of a plan before a planning.
+const NO_SEED: u32 = u32::MAX;
 
 /// A table's title and its samples, the proved version's and the plain one's first.
 struct Row {
@@ -23,17 +26,20 @@ pub fn print() {
     println!(
         "Times of one operation: medians of {REPETITIONS} repetitions, with the versions in turn."
     );
-    println!("  proved         the proved library over its C boundary");
-    println!("  plain          plain Rust on the same text or tags, rust/bench/src/plain.rs");
+    println!("  proved         the proved library over its C boundary; it builds by planning and writing in turn");
+    println!("  plain          plain Rust on the same text or tags, rust/bench/src/plain.rs; it builds in one call");
     println!("  hash map       std HashMap<u32, u32> of the parsed list");
     println!("  sorted slice   pairs of the parsed list, by binary search");
-    println!("Answers and images are asserted equal, byte for byte, to the model's: after every build, and after every pass of checks, lookups or placings, outside the times.");
-    println!("Buffers are filled with '.' before every build, outside the times; L = {LIMIT} in all cases.");
+    println!("Answers, plans and images are asserted equal, byte for byte, to the model's: after every build, planning and writing, and after every pass of checks, lookups or placings, outside the times.");
+    println!("Buffers are filled with '.' before every build and writing, cells with {NO_SEED} before every planning, outside the times; L = {LIMIT} in all cases.");
 
     let mut rows = Vec::new();
     let built = cases::built();
     rows.extend(built.iter().map(build));
     rows.extend(cases::unserved().iter().map(build_unserved));
+    let planned = cases::planned();
+    rows.extend(planned.iter().map(plan));
+    rows.extend(planned.iter().map(write));
     rows.extend(cases::placed().iter().map(place));
     rows.extend(built.iter().map(check));
     let mut random = Random::new(3);
@@ -90,12 +96,25 @@ fn time_builds(
     expected: &[u8],
     iterations: u32,
 ) -> Duration {
+    time_images(version, answer, expected, iterations, |buffer| {
+        (version.build)(black_box(text), black_box(buffer))
+    })
+}
+
+/// The time of so many runs that leave this image in a buffer and answer this number.
+fn time_images(
+    version: Version,
+    answer: u64,
+    expected: &[u8],
+    iterations: u32,
+    run: impl Fn(&mut [u8]) -> u64,
+) -> Duration {
     let mut buffer = vec![0; expected.len()];
     let mut all = Duration::ZERO;
     for _ in 0..iterations {
         buffer.fill(CLEARED);
         let begin = Instant::now();
-        let answered = (version.build)(black_box(text), black_box(&mut buffer));
+        let answered = run(&mut buffer);
         all += begin.elapsed();
         assert_eq!(answered, answer);
         assert!(buffer == expected, "{} writes another image", version.name);
@@ -177,6 +196,77 @@ fn build_unserved(case: &Case) -> Row {
     };
     assert_eq!(cases::passing(&case.tags), passing, "{}", case.title);
     row(format!("build: {}", case.title), build_samples(case))
+}
+
+/// The plan of a case, as the model says.
+fn plan_of(case: &Case) -> [u32; PLAN_CELLS] {
+    let mut cells = [NO_SEED; PLAN_CELLS];
+    let answer = model::answer_plan(&case.text(), &mut cells);
+    assert_eq!(answer, case.groups.into(), "{} is not planned", case.title);
+    cells
+}
+
+/// The time of so many plannings.
+fn time_plannings(
+    version: Version,
+    text: &[u8],
+    expected: &[u32; PLAN_CELLS],
+    iterations: u32,
+) -> Duration {
+    let mut cells = [0; PLAN_CELLS];
+    let mut all = Duration::ZERO;
+    for _ in 0..iterations {
+        cells.fill(NO_SEED);
+        let begin = Instant::now();
+        let answered = (version.plan)(black_box(text), black_box(&mut cells));
+        all += begin.elapsed();
+        assert_eq!(answered, expected[0].into());
+        assert!(cells == *expected, "{} makes another plan", version.name);
+    }
+    all
+}
+
+/// The seeds alone, without an image.
+fn plan(case: &Case) -> Row {
+    let text = &case.text()[..];
+    let expected = &plan_of(case);
+    let versions = BOTH.iter().map(|&version| Timed {
+        name: version.name,
+        run: Box::new(move |iterations| time_plannings(version, text, expected, iterations)),
+    });
+    row(
+        format!("plan: {}", case.title),
+        measure(1, versions.collect()),
+    )
+}
+
+/// The time of so many writings under one plan.
+fn time_writings(
+    version: Version,
+    text: &[u8],
+    plan: &[u32; PLAN_CELLS],
+    expected: &[u8],
+    iterations: u32,
+) -> Duration {
+    let answer = expected.len() as u64;
+    time_images(version, answer, expected, iterations, |buffer| {
+        (version.write)(black_box(text), black_box(plan), black_box(buffer))
+    })
+}
+
+/// The image under the plan of the same list.
+fn write(case: &Case) -> Row {
+    let text = &case.text()[..];
+    let plan = &plan_of(case);
+    let expected = &image_of(case)[..];
+    let versions = BOTH.iter().map(|&version| Timed {
+        name: version.name,
+        run: Box::new(move |iterations| time_writings(version, text, plan, expected, iterations)),
+    });
+    row(
+        format!("write: {}", case.title),
+        measure(1, versions.collect()),
+    )
 }
 
 /// What stands in a cell before a placing. No group has this word: the lowest tag of a cycle has

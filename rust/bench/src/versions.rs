@@ -1,12 +1,14 @@
-//! The two versions that take the same texts and tags and answer the same numbers.
+//! The two versions that take the same texts, tags and plans and answer the same numbers.
 
 use crate::plain;
-use tag_index::raw;
+use tag_index::raw::{self, PLAN_CELLS};
 
 #[derive(Clone, Copy)]
 pub struct Version {
     pub name: &'static str,
     pub build: fn(&[u8], &mut [u8]) -> u64,
+    pub plan: fn(&[u8], &mut [u32; PLAN_CELLS]) -> u64,
+    pub write: fn(&[u8], &[u32; PLAN_CELLS], &mut [u8]) -> u64,
     pub check: fn(&[u8]) -> u64,
     pub lookup: fn(&[u8], u32) -> u64,
     pub place: fn(&[u32], u32, &mut [u32; 1]) -> u64,
@@ -16,14 +18,19 @@ pub struct Version {
 pub const PROVED: Version = Version {
     name: "proved",
     build: raw::build,
+    plan: raw::plan,
+    write: raw::write,
     check: raw::check,
     lookup: raw::lookup,
     place: raw::place_group,
 };
 
+/// Plain Rust. Its building is one call, in which each group's seed and choices are found together.
 pub const PLAIN: Version = Version {
     name: "plain",
     build: plain::build,
+    plan: plain::plan,
+    write: plain::write,
     check: plain::check,
     lookup: plain::lookup,
     place: plain::place_group,

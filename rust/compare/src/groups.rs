@@ -276,7 +276,7 @@ fn due_at_once(tally: &mut Tally) {
 }
 
 /// A tag's candidate places, that of choice 0 first.
-type Key = [usize; 2];
+pub type Key = [usize; 2];
 
 /// A path from the place 0, which its first tag has to itself.
 fn path(n: usize) -> Vec<Key> {
@@ -357,7 +357,7 @@ fn too_many_tags(n: usize) -> Vec<Key> {
 
 /// Each shape as it is, with its places renamed, and with its tags in another order and some pairs of
 /// places turned round too.
-fn shapes(random: &mut Random, n: usize) -> Vec<(&'static str, Vec<Key>)> {
+pub fn shapes(random: &mut Random, n: usize) -> Vec<(&'static str, Vec<Key>)> {
     let mut all = vec![
         ("paths", path(n)),
         ("paths to be moved along", path_to_be_moved_along(n)),
@@ -389,14 +389,19 @@ fn shapes(random: &mut Random, n: usize) -> Vec<(&'static str, Vec<Key>)> {
 /// Places a group that has these candidate places under some seed, with L so that this seed is the
 /// last one tried, with one less, and with the greatest.
 fn made(tally: &mut Tally, random: &mut Random, keys: &[Key]) {
+    let (seed, tags) = shaped(random, keys);
+    for limit in [seed + 1, seed, 65_536] {
+        place_made(tally, random, &tags, limit, seed);
+    }
+}
+
+/// A group that has these candidate places under a seed, and the seed.
+pub fn shaped(random: &mut Random, keys: &[Key]) -> (u32, Vec<u32>) {
     // Under a seed s each place of choice 0 goes with about 4s + 3 places of choice 1, so from n / 8
     // on every pair has tags. The higher the seed, the more often a lower one serves a small group.
     let seed = (keys.len() / 4 + random.below(2)) as u32;
     let from = 1 + random.below(1 << 30) as u32;
-    let tags = tags_with(keys, seed, from);
-    for limit in [seed + 1, seed, 65_536] {
-        place_made(tally, random, &tags, limit, seed);
-    }
+    (seed, tags_with(keys, seed, from))
 }
 
 /// Ascending tags with these candidate places under the seed: each the lowest above the one before.
@@ -414,27 +419,32 @@ fn tags_with(keys: &[Key], seed: u32, from: u32) -> Vec<u32> {
         .collect()
 }
 
-/// A group that is filled under a seed by a sequence chosen beforehand: each tag has its place in it
-/// by one choice, and by the other any place. This can be done for every seed, also for 0.
+/// Groups that are filled under a seed by a sequence chosen beforehand, also under seed 0.
 fn planted(tally: &mut Tally, random: &mut Random, n: usize) {
     for seed in [0, 0, 1, random.below(100) as u32] {
-        let mut places: Vec<u32> = (0..n as u32).collect();
-        random.shuffle(&mut places);
-        let mut tag = random.below(1 << 30) as u32;
-        let tags: Vec<u32> = places
-            .iter()
-            .map(|&place| {
-                let choice = random.below(2) as u32;
-                tag = (tag + 1..)
-                    .find(|&tag| place_of(n as u32, seed, choice, tag) == place)
-                    .expect("every place has tags");
-                tag
-            })
-            .collect();
+        let tags = filled_under(random, n, seed);
         for limit in [seed + 1, 65_536] {
             place_made(tally, random, &tags, limit, seed);
         }
     }
+}
+
+/// A group that a sequence fills under the seed: each tag has its place in it by one choice, and by the
+/// other any place. This can be done for every seed.
+pub fn filled_under(random: &mut Random, n: usize, seed: u32) -> Vec<u32> {
+    let mut places: Vec<u32> = (0..n as u32).collect();
+    random.shuffle(&mut places);
+    let mut tag = random.below(1 << 30) as u32;
+    places
+        .iter()
+        .map(|&place| {
+            let choice = random.below(2) as u32;
+            tag = (tag + 1..)
+                .find(|&tag| place_of(n as u32, seed, choice, tag) == place)
+                .expect("every place has tags");
+            tag
+        })
+        .collect()
 }
 
 fn place_made(tally: &mut Tally, random: &mut Random, tags: &[u32], limit: u32, seed: u32) {

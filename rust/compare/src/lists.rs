@@ -63,7 +63,7 @@ pub fn compare(tally: &mut Tally, random: &mut Random, size: &Size) {
         let case = close_numbered(random);
         rebuild(tally, random, &case);
         tally.kind("one group of 33 and more");
-        overfull(tally, random);
+        too_large(tally, random);
     }
     for _ in 0..size.large_lists {
         tally.kind("large lists");
@@ -226,8 +226,8 @@ fn close_numbered(random: &mut Random) -> Case {
     Case::new(groups, 65_536, (first..first + count).collect::<Vec<_>>())
 }
 
-/// Few tags in most groups, and 33 to 40 in one or two of them: 10 at the lower one.
-fn overfull(tally: &mut Tally, random: &mut Random) {
+/// Few tags in most groups, and 33 to 40 in one or two of them.
+pub fn overfull(random: &mut Random) -> Case {
     let groups = random.within(2, 512) as u32;
     let mut tags = different(groups as usize, || random.tag());
     for _ in 0..random.within(1, 2) {
@@ -237,16 +237,26 @@ fn overfull(tally: &mut Tally, random: &mut Random) {
     }
     tags.sort_unstable();
     tags.dedup();
-    // With a byte less, 9 comes before 10; with tag 0 in front, 17 before both.
+    Case::new(groups, 65_536, tags)
+}
+
+/// 10 at the lower one of the groups with too many tags.
+fn too_large(tally: &mut Tally, random: &mut Random) {
+    let Case {
+        groups,
+        limit,
+        tags,
+    } = overfull(random);
+    // With a byte less, 10 comes before 9; with tag 0 in front, 17 before both.
     for tags in [behind_0(&tags), tags] {
-        let case = Case::new(groups, 65_536, tags);
+        let case = Case::new(groups, limit, tags);
         for room in [case.length(), case.length() - 1] {
             tally.build(&case.text(), room);
         }
     }
 }
 
-fn tag_of_group(random: &mut Random, group: u32, groups: u32) -> u32 {
+pub fn tag_of_group(random: &mut Random, group: u32, groups: u32) -> u32 {
     loop {
         let tag = random.tag();
         if group_of(tag, groups) == group {

@@ -1,5 +1,5 @@
 //! Runs cases against the model of the papers: the proved functions over the C boundary, answers
-//! and every byte of the buffer, the binding's `Index`, and the index printer.
+//! and every lent cell and byte, the binding's `Index` and `Plan`, and the index printer.
 //!
 //!     compare                  a million answers and more, under a minute
 //!     compare --long           more than ten million, and many more lists
@@ -14,6 +14,7 @@
 mod groups;
 mod images;
 mod lists;
+mod plans;
 mod printing;
 mod soak;
 mod stored;
@@ -38,6 +39,12 @@ pub struct Size {
     /// Lists of 128 groups that have 32 tags each.
     all_full: usize,
     large_lists: usize,
+    /// Rounds of one list of each kind, planned and written with plans of all kinds, and large ones.
+    plans: usize,
+    large_plans: usize,
+    /// Rounds of all sets of refusals due at once, and of groups of each size under one seed.
+    due: usize,
+    seeds: usize,
     /// Images of which each byte is changed, and by which steps: 1 is all other values.
     small_images: usize,
     byte_step: usize,
@@ -61,6 +68,10 @@ const SMALL: Size = Size {
     full_lists: 1,
     all_full: 0,
     large_lists: 1,
+    plans: 1,
+    large_plans: 1,
+    due: 1,
+    seeds: 1,
     small_images: 2,
     byte_step: 51,
     full_images: 2,
@@ -78,6 +89,10 @@ const USUAL: Size = Size {
     full_lists: 100,
     all_full: 1,
     large_lists: 150,
+    plans: 80,
+    large_plans: 15,
+    due: 8,
+    seeds: 12,
     small_images: 99,
     byte_step: 1,
     full_images: 60,
@@ -95,6 +110,10 @@ const LONG: Size = Size {
     full_lists: 1_000,
     all_full: 8,
     large_lists: 1_500,
+    plans: 800,
+    large_plans: 150,
+    due: 80,
+    seeds: 150,
     small_images: 99,
     byte_step: 1,
     full_images: 400,
@@ -203,6 +222,7 @@ fn compare(options: &Options) -> bool {
     let mut random = Random::new(options.seed);
     let size = &options.size;
     groups::chosen(&mut tally, &mut random);
+    plans::compare(&mut tally, &mut random, size);
     lists::compare(&mut tally, &mut random, size);
     texts::compare(&mut tally, &mut random, size);
     images::compare(&mut tally, &mut random, size);

@@ -1,9 +1,10 @@
-//! One process that places groups, rebuilds and looks up for a given time: every answer must be the
-//! model's, and the process must not grow.
+//! One process that places groups, plans, writes, rebuilds and looks up for a given time: every answer
+//! must be the model's, and the process must not grow.
 
 use std::fs;
 use std::time::{Duration, Instant};
 
+use model::boundary::Cells;
 use random::Random;
 use tag_index::raw;
 
@@ -23,6 +24,8 @@ struct Expected {
     text: Vec<u8>,
     room: usize,
     built: u64,
+    planned: u64,
+    plan: Cells,
     /// The buffer after building; the image is its beginning.
     buffer: Vec<u8>,
     checked: u64,
@@ -93,6 +96,8 @@ fn expected(random: &mut Random) -> Vec<Expected> {
             let room = case.length();
             let mut buffer = vec![128; room];
             let built = model::answer_build(&text, &mut buffer);
+            let mut plan = [0; 513];
+            let planned = model::answer_plan(&text, &mut plan);
             let mut tags = case.tags.clone();
             tags.extend((0..20).map(|_| random.tag()));
             let found = tags
@@ -116,6 +121,8 @@ fn expected(random: &mut Random) -> Vec<Expected> {
                 text,
                 room,
                 built,
+                planned,
+                plan,
                 buffer,
                 found,
                 damage,
@@ -124,7 +131,7 @@ fn expected(random: &mut Random) -> Vec<Expected> {
         .collect()
 }
 
-/// Rebuilds every list once and asks for all its tags; the number of answers.
+/// Rebuilds every list once, plans and writes it, and asks for all its tags; the number of answers.
 fn round(expected: &[Expected], buffer: &mut [u8]) -> u64 {
     let mut answers = 0;
     for (index, one) in expected.iter().enumerate() {
@@ -142,6 +149,23 @@ fn round(expected: &[Expected], buffer: &mut [u8]) -> u64 {
         if image != one.buffer {
             differs(&format!(
                 "soak, building of list {index}: other bytes in the buffer"
+            ));
+        }
+        let mut plan = [u32::MAX; 513];
+        hold(raw::plan(&one.text, &mut plan), one.planned, "planning");
+        if plan != one.plan {
+            differs(&format!("soak, planning of list {index}: another plan"));
+        }
+        // What planning refuses is not written: the plan's B is 0.
+        let written = match one.planned >> 32 {
+            0 => one.built,
+            _ => 8 << 32,
+        };
+        image.fill(128);
+        hold(raw::write(&one.text, &plan, image), written, "writing");
+        if image != one.buffer {
+            differs(&format!(
+                "soak, writing of list {index}: other bytes in the buffer"
             ));
         }
         hold(raw::check(image), one.checked, "checking");

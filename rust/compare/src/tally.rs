@@ -3,16 +3,22 @@
 use std::collections::{BTreeMap, BTreeSet};
 use std::process;
 
+use model::boundary::Cells;
 use model::placing::LARGEST_GROUP;
-use tag_index::{raw, Index, Reason, UNKNOWN};
+use tag_index::{raw, Index, Plan, Reason, Refusal, UNKNOWN};
 
-/// Bytes behind the buffer that building is lent, which must stay as they are.
+/// Bytes behind the buffer that building or writing is lent, which must stay as they are.
 const GUARD: usize = 32;
 
-/// The four calls over the C boundary, and the printer's run.
+/// Cells before and behind the plan that planning is lent, which must stay as they are.
+const GUARD_CELLS: usize = 4;
+
+/// The six calls over the C boundary, and the printer's run.
 #[derive(Clone, Copy, PartialEq, Eq, PartialOrd, Ord)]
 pub enum Operation {
     Placing,
+    Planning,
+    Writing,
     Building,
     Checking,
     Lookup,
@@ -20,8 +26,10 @@ pub enum Operation {
 }
 
 impl Operation {
-    pub const ALL: [Operation; 5] = [
+    pub const ALL: [Operation; 7] = [
         Operation::Placing,
+        Operation::Planning,
+        Operation::Writing,
         Operation::Building,
         Operation::Checking,
         Operation::Lookup,
@@ -31,6 +39,8 @@ impl Operation {
     fn name(self) -> &'static str {
         match self {
             Operation::Placing => "placing",
+            Operation::Planning => "planning",
+            Operation::Writing => "writing",
             Operation::Building => "building",
             Operation::Checking => "checking",
             Operation::Lookup => "lookup",
@@ -42,11 +52,24 @@ impl Operation {
     fn refusals(self) -> &'static [usize] {
         match self {
             Operation::Placing => &[4, 5, 6, 7, 17],
+            Operation::Planning => &[4, 5, 6, 7, 8, 10, 16, 17],
+            Operation::Writing => &[2, 5, 6, 8, 9, 10, 16, 17, 18],
             Operation::Building => &[4, 5, 6, 7, 8, 9, 10, 16, 17],
             Operation::Checking => &[11, 12, 13, 14, 15, 17],
             Operation::Lookup => &[11, 12, 13],
             // The printer's buffer holds every image.
             Operation::Printing => &[4, 5, 6, 7, 8, 10, 16, 17],
+        }
+    }
+
+    /// The refusals of an operation that takes a text, in the order written. The first two are reading's:
+    /// a list of more than 4,096 tags is refused there already.
+    pub fn order(self) -> &'static [u32] {
+        match self {
+            Operation::Planning => &[16, 5, 8, 4, 6, 17, 10, 7],
+            Operation::Writing => &[16, 5, 8, 2, 6, 17, 9, 10, 18],
+            Operation::Building => &[16, 5, 8, 4, 6, 17, 10, 7, 9],
+            _ => &[],
         }
     }
 
@@ -63,6 +86,8 @@ impl Operation {
     fn success(self) -> &'static str {
         match self {
             Operation::Placing => "seed",
+            Operation::Planning => "plan",
+            Operation::Writing => "length",
             Operation::Building => "length",
             Operation::Checking => "accepted",
             Operation::Lookup => "number",
@@ -75,8 +100,8 @@ impl Operation {
 /// anything else.
 #[derive(Default)]
 struct Answers {
-    refused: [u64; 18],
-    places: [BTreeSet<u32>; 18],
+    refused: [u64; 19],
+    places: [BTreeSet<u32>; 19],
     unknown: u64,
     success: u64,
 }
@@ -159,6 +184,19 @@ struct Indexes {
     lookups: u64,
 }
 
+/// What came of plans.
+#[derive(Default)]
+struct Plans {
+    /// Refused plannings that were lent cells which were not all 0, and are afterwards.
+    cleared: u64,
+    /// Lists that were planned, written and built.
+    in_turn: u64,
+    /// Images with a seed other than 0 for an empty group, and images whose plan has a number above
+    /// 65,535 behind the last group.
+    empty_group: u64,
+    high_behind: u64,
+}
+
 /// Lookups of tag 0: unknown, of these the ones in images that checking refuses, and refused.
 #[derive(Default)]
 struct Unwired {
@@ -170,8 +208,11 @@ struct Unwired {
 pub struct Tally {
     kind: &'static str,
     kinds: BTreeMap<(Operation, &'static str), u64>,
-    answers: [Answers; 5],
+    answers: [Answers; 7],
     placed: Placed,
+    plans: Plans,
+    /// Cases with several refusals due at once, by the first two of them in the order written.
+    pairs: BTreeMap<(Operation, u32, u32), u64>,
     unwired: Unwired,
     indexes: Indexes,
     /// Lends each call memory of just the right size, so that a memory checker sees a byte too far.
@@ -185,6 +226,8 @@ impl Tally {
             kinds: BTreeMap::new(),
             answers: Default::default(),
             placed: Placed::default(),
+            plans: Plans::default(),
+            pairs: BTreeMap::new(),
             unwired: Unwired::default(),
             indexes: Indexes::default(),
             exact,
@@ -238,16 +281,72 @@ impl Tally {
 
     /// Builds from a text into a buffer of `room` bytes, and answers what both sides answered.
     pub fn build(&mut self, text: &[u8], room: usize) -> u64 {
+        self.fill(
+            Operation::Building,
+            text,
+            room,
+            String::new,
+            raw::build,
+            model::answer_build,
+        )
+    }
+
+    /// Writes the tags of a text with a plan into a buffer of `room` bytes, and answers what both sides
+    /// answered.
+    pub fn write(&mut self, text: &[u8], plan: &Cells, room: usize) -> u64 {
+        let lent = Box::new(*plan);
+        let answer = self.fill(
+            Operation::Writing,
+            text,
+            room,
+            || planned(plan),
+            |text, image| raw::write(text, &lent, image),
+            |text, image| model::answer_write(text, plan, image),
+        );
+        if *lent != *plan {
+            let kind = self.kind;
+            differs(&format!(
+                "writing ({kind}): it changed the plan\n{}",
+                shown(text)
+            ));
+        }
+        if answer >> 32 == 0 {
+            let groups = plan[0] as usize;
+            self.plans.high_behind +=
+                u64::from(plan[1 + groups..].iter().any(|&seed| seed > 65_535));
+            // An empty group with a seed: each tag of the list is in another group.
+            let tags = model::read_list(text, usize::MAX).map_or(Vec::new(), |list| list.tags);
+            let occupied: BTreeSet<u32> = tags
+                .iter()
+                .map(|&tag| model::hash::group_of(tag, plan[0]))
+                .collect();
+            self.plans.empty_group += u64::from(
+                (0..plan[0])
+                    .any(|group| plan[1 + group as usize] != 0 && !occupied.contains(&group)),
+            );
+        }
+        answer
+    }
+
+    /// Calls both sides with a buffer of `room` bytes, and compares the answers and every byte.
+    fn fill(
+        &mut self,
+        operation: Operation,
+        text: &[u8],
+        room: usize,
+        with: impl Fn() -> String,
+        library: impl Fn(&[u8], &mut [u8]) -> u64,
+        model: impl Fn(&[u8], &mut [u8]) -> u64,
+    ) -> u64 {
         let guard = if self.exact { 0 } else { GUARD };
-        // No byte of an image is above 127, so whatever is written differs from what was there.
-        let mut ours: Box<[u8]> = (0..room + guard).map(|at| 128 | (37 * at) as u8).collect();
+        let mut ours = patterned(room + guard);
         let mut theirs = ours.clone();
         let answer = if self.exact {
-            raw::build(&Box::<[u8]>::from(text), &mut ours[..room])
+            library(&Box::<[u8]>::from(text), &mut ours[..room])
         } else {
-            raw::build(text, &mut ours[..room])
+            library(text, &mut ours[..room])
         };
-        let expected = model::answer_build(text, &mut theirs[..room]);
+        let expected = model(text, &mut theirs[..room]);
         if answer != expected || ours != theirs {
             let bytes = match (0..ours.len()).find(|&at| ours[at] != theirs[at]) {
                 Some(at) => format!(
@@ -256,11 +355,101 @@ impl Tally {
                 ),
                 None => "; the buffer is the same".to_string(),
             };
-            let case = format!("building into {room} bytes");
+            let case = format!("{}{} into {room} bytes", operation.name(), with());
             self.differs(&case, text, answer, expected, &bytes);
         }
-        self.count(Operation::Building, answer);
+        self.count(operation, answer);
         answer
+    }
+
+    /// Plans from a text, lending cells that hold `before`, and answers what both sides answered and
+    /// the plan that both left.
+    pub fn plan(&mut self, text: &[u8], before: &Cells) -> (u64, Cells) {
+        let mut theirs = *before;
+        let expected = model::answer_plan(text, &mut theirs);
+        let mut ours = *before;
+        let mut kept = true;
+        let answer = if self.exact {
+            let mut lent = Box::new(*before);
+            let answer = raw::plan(&Box::<[u8]>::from(text), &mut lent);
+            ours = *lent;
+            answer
+        } else {
+            // The cells before and behind the plan must stay.
+            let guard = [!before[0]; GUARD_CELLS];
+            let mut cells = [&guard[..], before, &guard].concat();
+            let lent = &mut cells[GUARD_CELLS..GUARD_CELLS + ours.len()];
+            let answer = raw::plan(text, lent.try_into().expect("it is as long as a plan"));
+            ours.copy_from_slice(lent);
+            kept = cells.starts_with(&guard) && cells.ends_with(&guard);
+            answer
+        };
+        if answer != expected || ours != theirs || !kept {
+            let cells = match (0..ours.len()).find(|&at| ours[at] != theirs[at]) {
+                Some(at) => format!(
+                    "; the plan differs first in cell {at}: {} instead of {}",
+                    ours[at], theirs[at]
+                ),
+                None if kept => "; the plan is the same".to_string(),
+                None => "; a cell beside the plan has changed".to_string(),
+            };
+            self.differs("planning", text, answer, expected, &cells);
+        }
+        self.count(Operation::Planning, answer);
+        self.plans.cleared += u64::from(answer >> 32 != 0 && before.iter().any(|&cell| cell != 0));
+        (answer, ours)
+    }
+
+    /// Plans, writes with the plan as it was yielded, and builds, all in the library: building answers
+    /// what planning refuses and otherwise what writing answers, and leaves the same bytes. Then the
+    /// same through the binding, with the plan stored and taken back before writing.
+    pub fn in_turn(&mut self, text: &[u8], room: usize) {
+        let mut built = patterned(room);
+        let expected = raw::build(text, &mut built);
+
+        let mut cells = [!0; 513];
+        let mut written = patterned(room);
+        let mut answer = raw::plan(text, &mut cells);
+        if answer >> 32 == 0 {
+            answer = raw::write(text, &cells, &mut written);
+        }
+        self.same_as_built(text, (expected, &built), (answer, &written));
+
+        let mut written = patterned(room);
+        let answer = tag_index::plan(text)
+            .map(|plan| Plan::from_le_bytes(&plan.to_le_bytes()))
+            .and_then(|plan| tag_index::write(text, &plan, &mut written))
+            .map_or_else(answer_of, |length| length as u64);
+        self.same_as_built(text, (expected, &built), (answer, &written));
+        self.plans.in_turn += 1;
+    }
+
+    /// Compares what the two calls answered and left with what building did.
+    fn same_as_built(&self, text: &[u8], built: (u64, &[u8]), written: (u64, &[u8])) {
+        if built != written {
+            let (kind, input) = (self.kind, shown(text));
+            let [built, answer] = [built.0, written.0].map(said);
+            differs(&format!(
+                "planning and writing in turn ({kind}): the library answers {answer}, and in building \
+                 {built}\n{input}"
+            ));
+        }
+    }
+
+    /// Counts a case in which several refusals were due at once, the first two of them in the order
+    /// written, and says that the first was answered.
+    pub fn due(&mut self, operation: Operation, due: &[u32], answer: u64) {
+        let number = (answer >> 32) as u32;
+        if due.first().copied().unwrap_or(0) != number {
+            let (name, kind) = (operation.name(), self.kind);
+            differs(&format!(
+                "{name} ({kind}): both sides answer {}, and due are {due:?}",
+                said(answer)
+            ));
+        }
+        if let [first, second, ..] = *due {
+            *self.pairs.entry((operation, first, second)).or_insert(0) += 1;
+        }
     }
 
     /// Checks an image on both sides, and answers what both answered.
@@ -314,7 +503,7 @@ impl Tally {
         let index = match taken {
             Ok(index) => index,
             Err(refusal) => {
-                let answer = (u64::from(refusal.reason.number()) << 32) + u64::from(refusal.place);
+                let answer = answer_of(refusal);
                 if answer != checked {
                     self.differs("taking an index", image, answer, checked, "");
                 }
@@ -370,6 +559,37 @@ impl Tally {
         }
     }
 
+    /// Prints the counts of what came of plans, and says whether all came, and every pair of refusals due
+    /// at once.
+    fn report_plans(&self) -> bool {
+        let Plans {
+            cleared,
+            in_turn,
+            empty_group,
+            high_behind,
+        } = self.plans;
+        println!("            of planning: {cleared} refused plans cleared that held something else; {in_turn} lists planned, written and built in turn");
+        println!("            of writing: {empty_group} images with a seed other than 0 for an empty group, {high_behind} with a number above 65535 behind the last group");
+        let mut complete = cleared > 0 && in_turn > 0 && empty_group > 0 && high_behind > 0;
+        for operation in [Operation::Planning, Operation::Writing, Operation::Building] {
+            let order = operation.order();
+            let pairs = order.len() * (order.len() - 1) / 2;
+            let counts: Vec<u64> = self
+                .pairs
+                .range((operation, 0, 0)..=(operation, u32::MAX, u32::MAX))
+                .map(|(_, &count)| count)
+                .collect();
+            println!(
+                "            of {}, several refusals due at once: {} cases, {} of {pairs} pairs of the first two",
+                operation.name(),
+                counts.iter().sum::<u64>(),
+                counts.len()
+            );
+            complete &= counts.len() == pairs;
+        }
+        complete
+    }
+
     fn differs(&self, case: &str, input: &[u8], answer: u64, expected: u64, more: &str) -> ! {
         let (kind, answer, expected) = (self.kind, said(answer), said(expected));
         differs(&format!(
@@ -412,7 +632,7 @@ impl Tally {
                 }
             }
         }
-        complete &= self.placed.report(least_large);
+        complete &= self.placed.report(least_large) && self.report_plans();
         let Unwired {
             unknown,
             unknown_at_fault,
@@ -428,8 +648,8 @@ impl Tally {
         println!("            of the binding's Index: {taken} images taken, {refused} refused, {lookups} lookups");
         complete &= taken > 0 && refused > 0 && lookups > 0;
         println!(
-            "            refusals 1, 2 and 3 belong to place of one tag, which is not called over \
-             the C boundary; --stored has them"
+            "            refusals 1 and 3 belong to place of one tag, which is not called over the C \
+             boundary; --stored has them"
         );
         if !complete {
             println!("compare: some answer, group size, bit or seed never came, or a refusal at one place only or at one that it does not name");
@@ -438,10 +658,25 @@ impl Tally {
     }
 }
 
+/// What the buffer holds before. No byte of an image is above 127, so whatever is written differs.
+fn patterned(room: usize) -> Box<[u8]> {
+    (0..room).map(|at| 128 | (37 * at) as u8).collect()
+}
+
+/// The beginning of a plan.
+fn planned(plan: &Cells) -> String {
+    format!(" with the plan B = {}, seeds {:?}..", plan[0], &plan[1..9])
+}
+
 /// Ends the run at the first difference.
 pub fn differs(what: &str) -> ! {
     println!("compare: difference: {what}");
     process::exit(1)
+}
+
+/// The answer that stands for a refusal of the binding.
+fn answer_of(refusal: Refusal) -> u64 {
+    (u64::from(refusal.reason.number()) << 32) + u64::from(refusal.place)
 }
 
 /// An answer in words.

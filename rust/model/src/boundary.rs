@@ -1,15 +1,18 @@
-//! The answers of the four calls over the C boundary.
+//! The answers of the six calls over the C boundary.
 //!
 //! "Each call answers one 64-bit number: the length, the tag's number or 0 for an accepted check;
 //! 4,294,967,295 for unknown; and for a refusal its number × 2^32 plus its place." Placing a group
-//! answers its seed, and leaves the choice word in a cell that it is lent.
+//! answers its seed, and leaves the choice word in a cell that it is lent. Planning answers B, and
+//! leaves the plan in 513 cells.
 
 use crate::building::build;
 use crate::checking::check;
 use crate::lookup::{lookup, Found};
 use crate::placing::place_group;
+use crate::planning::{plan_list, Plan};
 use crate::printer::read_bounded_list;
 use crate::refusal::Refusal;
+use crate::writing::write_list;
 
 /// The answer that stands for unknown.
 pub const UNKNOWN: u64 = 4_294_967_295;
@@ -23,6 +26,46 @@ pub fn answer_build(text: &[u8], buffer: &mut [u8]) -> u64 {
         Ok(length) => length as u64,
         Err(refusal) => answer_of_refusal(refusal),
     }
+}
+
+/// A plan in cells: B in cell 0, the seed of group g in cell 1 + g.
+pub type Cells = [u32; 513];
+
+/// B, at most 512, and the plan in the cells. A list text is taken as in building. The cells of a
+/// refused planning are all 0, those of a text that reading refuses too.
+pub fn answer_plan(text: &[u8], plan: &mut Cells) -> u64 {
+    let planned =
+        read_bounded_list(text).and_then(|list| plan_list(&list.tags, list.groups, list.limit));
+    *plan = cells_of(&planned.unwrap_or(Plan::REFUSED));
+    match planned {
+        Ok(plan) => u64::from(plan.groups),
+        Err(refusal) => answer_of_refusal(refusal),
+    }
+}
+
+/// The length. The list is the text's tags; its B and L have to be well formed and mean nothing.
+pub fn answer_write(text: &[u8], plan: &Cells, buffer: &mut [u8]) -> u64 {
+    let plan = plan_of(plan);
+    let written = read_bounded_list(text).and_then(|list| write_list(&list.tags, &plan, buffer));
+    match written {
+        Ok(length) => length as u64,
+        Err(refusal) => answer_of_refusal(refusal),
+    }
+}
+
+fn cells_of(plan: &Plan) -> Cells {
+    let mut cells = [0; 513];
+    cells[0] = plan.groups;
+    cells[1..].copy_from_slice(&plan.seeds);
+    cells
+}
+
+/// The plan that any 513 numbers are.
+fn plan_of(cells: &Cells) -> Plan {
+    let mut plan = Plan::REFUSED;
+    plan.groups = cells[0];
+    plan.seeds.copy_from_slice(&cells[1..]);
+    plan
 }
 
 /// 0 if checking accepts the image.

@@ -30,14 +30,19 @@ pub fn place_group(tags: &[u32], limit: u32) -> Result<(u32, u32), Refusal> {
     if first_is_unwired(tags) {
         return refuse(17);
     }
-    // "The search stops at the first seed that some choice sequence fills."
-    match (0..limit).find(|&seed| serves(tags, seed)) {
+    match first_seed(tags, limit) {
         None => refuse(7),
         Some(seed) => {
             let word = least_word(tags, seed).expect("connected parts and matching agree");
             Ok((seed, word))
         }
     }
+}
+
+/// "The search stops at the first seed that some choice sequence fills." The limit and the group are in
+/// order.
+pub fn first_seed(tags: &[u32], limit: u32) -> Option<u32> {
+    (0..limit).find(|&seed| serves(tags, seed))
 }
 
 /// Whether L is 1 to 65,536.

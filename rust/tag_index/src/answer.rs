@@ -9,7 +9,7 @@ use std::ops::RangeInclusive;
 use crate::refusal::{Reason, Refusal};
 use crate::{
     Placement, LARGEST_GROUP, LARGEST_GROUP_COUNT, LARGEST_LIMIT, LARGEST_LIST, LONGEST_IMAGE,
-    LONGEST_TEXT,
+    LONGEST_TEXT, PLAN_CELLS,
 };
 
 /// The answer that stands for unknown.
@@ -32,9 +32,30 @@ const BUILDING: [Allowed; 9] = [
     (Reason::LimitOutOfRange, NO_PLACE),
     (Reason::NotAscending, 1..=LARGEST_LIST as u32 - 1),
     (Reason::UnwiredTag, NO_PLACE),
-    (Reason::BufferTooShort, NO_PLACE),
     (Reason::GroupTooLarge, GROUPS),
     (Reason::NoSeed, GROUPS),
+    (Reason::BufferTooShort, NO_PLACE),
+];
+const PLANNING: [Allowed; 8] = [
+    (Reason::MalformedList, LINES_OF_TEXT),
+    (Reason::TooManyTags, NO_PLACE),
+    (Reason::GroupCountOutOfRange, NO_PLACE),
+    (Reason::LimitOutOfRange, NO_PLACE),
+    (Reason::NotAscending, 1..=LARGEST_LIST as u32 - 1),
+    (Reason::UnwiredTag, NO_PLACE),
+    (Reason::GroupTooLarge, GROUPS),
+    (Reason::NoSeed, GROUPS),
+];
+const WRITING: [Allowed; 9] = [
+    (Reason::MalformedList, LINES_OF_TEXT),
+    (Reason::TooManyTags, NO_PLACE),
+    (Reason::GroupCountOutOfRange, NO_PLACE),
+    (Reason::SeedOutOfRange, GROUPS),
+    (Reason::NotAscending, 1..=LARGEST_LIST as u32 - 1),
+    (Reason::UnwiredTag, NO_PLACE),
+    (Reason::BufferTooShort, NO_PLACE),
+    (Reason::GroupTooLarge, GROUPS),
+    (Reason::SeedDoesNotServe, GROUPS),
 ];
 const CHECKING: [Allowed; 6] = [
     (Reason::WrongLength, NO_PLACE),
@@ -59,15 +80,48 @@ const PLACING: [Allowed; 5] = [
 
 /// Building's answer for a buffer of `room` bytes: the image's length, or the refusal.
 pub(crate) fn built(answer: u64, room: usize) -> Result<usize, Refusal> {
-    if let Some(refusal) = refusal(answer, &BUILDING) {
+    match refusal(answer, &BUILDING) {
+        Some(refusal) => Err(refusal),
+        None => Ok(length("building", answer, room)),
+    }
+}
+
+/// Planning's answer, and the cells that it was lent: they hold a plan of B groups, or the refusal came
+/// and all of them are 0.
+pub(crate) fn planned(answer: u64, cells: &[u32; PLAN_CELLS]) -> Result<(), Refusal> {
+    let [groups, seeds @ ..] = cells;
+    if let Some(refusal) = refusal(answer, &PLANNING) {
+        if cells.iter().any(|&cell| cell != 0) {
+            not_allowed("planning, with another plan than zeros,", answer);
+        }
         return Err(refusal);
     }
+    if !(1..=LARGEST_GROUP_COUNT.into()).contains(&answer) || answer != u64::from(*groups) {
+        not_allowed(&format!("planning, with {groups} groups,"), answer);
+    }
+    let (used, unused) = seeds.split_at(answer as usize);
+    if used.iter().any(|&seed| seed >= LARGEST_LIMIT) || unused.iter().any(|&seed| seed != 0) {
+        not_allowed("planning, with no seeds of so many groups,", answer);
+    }
+    Ok(())
+}
+
+/// Writing's answer for a buffer of `room` bytes: the image's length, or the refusal.
+pub(crate) fn written(answer: u64, room: usize) -> Result<usize, Refusal> {
+    match refusal(answer, &WRITING) {
+        Some(refusal) => Err(refusal),
+        None => Ok(length("writing", answer, room)),
+    }
+}
+
+/// The length of an image in a buffer of `room` bytes, from an answer that is no refusal.
+fn length(operation: &str, answer: u64, room: usize) -> usize {
     let longest = room.min(LONGEST_IMAGE) as u64;
     // One line and at least one group line.
     if !(22..=longest).contains(&answer) || !answer.is_multiple_of(11) {
-        not_allowed("building", answer);
+        not_allowed(operation, answer);
     }
-    Ok(answer as usize)
+    answer as usize
 }
 
 /// Checking's answer: 0, or the refusal.
@@ -158,8 +212,10 @@ mod tests {
 
     #[test]
     fn answers_at_their_bounds_are_taken() {
-        assert_eq!(built(22, 22), Ok(22));
-        assert_eq!(built(50_699, 60_000), Ok(50_699));
+        for taken in [built, written] {
+            assert_eq!(taken(22, 22), Ok(22));
+            assert_eq!(taken(50_699, 60_000), Ok(50_699));
+        }
         assert_eq!(checked(0), Ok(()));
         assert_eq!(looked_up(0), Ok(Some(0)));
         assert_eq!(looked_up(4_095), Ok(Some(4_095)));
@@ -170,6 +226,49 @@ mod tests {
             place: 5_956,
         };
         assert_eq!(built(refused(16, 5_956), 0), Err(last_line));
+    }
+
+    /// A plan of so many groups that have this seed each.
+    fn cells_of(groups: u32, seed: u32) -> [u32; PLAN_CELLS] {
+        let mut cells = [0; PLAN_CELLS];
+        cells[0] = groups;
+        cells[1..=groups as usize].fill(seed);
+        cells
+    }
+
+    #[test]
+    fn plans_at_their_bounds_are_taken() {
+        for groups in [1, 2, 512] {
+            for seed in [0, 65_535] {
+                assert_eq!(planned(groups.into(), &cells_of(groups, seed)), Ok(()));
+            }
+        }
+    }
+
+    #[test]
+    fn a_plan_that_the_papers_do_not_allow_panics() {
+        let taken = |answer, cells: [u32; PLAN_CELLS]| catch_unwind(|| planned(answer, &cells));
+        // No group count, or another than the plan's.
+        assert!(taken(0, [0; PLAN_CELLS]).is_err());
+        let mut cells = [0; PLAN_CELLS];
+        cells[0] = 513;
+        assert!(taken(513, cells).is_err());
+        for answer in [1, 3, refused(9, 0), refused(2, 0), refused(18, 0)] {
+            assert!(taken(answer, cells_of(2, 7)).is_err(), "{answer}");
+        }
+        // No seed; a seed behind the last group.
+        assert!(taken(2, cells_of(2, 65_536)).is_err());
+        for group in [2, 3, 511] {
+            let mut cells = cells_of(2, 7);
+            cells[1 + group] = 1;
+            assert!(taken(2, cells).is_err(), "{group}");
+        }
+        // A refused planning that leaves a number in the plan.
+        for at in [0, 1, 2, 512] {
+            let mut cells = [0; PLAN_CELLS];
+            cells[at] = 1;
+            assert!(taken(refused(7, 1), cells).is_err(), "{at}");
+        }
     }
 
     #[test]
@@ -199,6 +298,8 @@ mod tests {
                     places.any(|(_, places)| places.contains(&place))
                 };
                 assert_eq!(has(&BUILDING), built_is(answer, refusal));
+                assert_eq!(has(&PLANNING), planned_is(answer, refusal));
+                assert_eq!(has(&WRITING), written_is(answer, refusal));
                 assert_eq!(has(&CHECKING), checked_is(answer, refusal));
                 assert_eq!(has(&LOOKUP), looked_up_is(answer, refusal));
                 assert_eq!(has(&PLACING), placed_is(answer, refusal));
@@ -218,6 +319,23 @@ mod tests {
         assert!(catch_unwind(|| built(refused(17, 1), 0)).is_err());
         assert!(catch_unwind(|| checked(refused(17, 4_096))).is_err());
         assert!(catch_unwind(|| looked_up(refused(17, 0))).is_err());
+    }
+
+    #[test]
+    fn the_plan_s_own_refusals_come_from_writing_alone_and_name_a_group() {
+        for (number, reason) in [(2, Reason::SeedOutOfRange), (18, Reason::SeedDoesNotServe)] {
+            for place in [0, 511] {
+                let refusal = Refusal { reason, place };
+                let answer = refused(number, place.into());
+                assert_eq!(written(answer, 0), Err(refusal));
+                assert!(catch_unwind(|| built(answer, 0)).is_err());
+            }
+            assert!(catch_unwind(|| written(refused(number, 512), 0)).is_err());
+        }
+        // A plan has no seed limit, and its seeds are not searched for.
+        for number in [4, 7] {
+            assert!(catch_unwind(|| written(refused(number, 0), 0)).is_err());
+        }
     }
 
     #[test]
@@ -244,6 +362,15 @@ mod tests {
         catch_unwind(|| built(answer, LONGEST_IMAGE)).is_ok_and(|taken| taken == Err(refusal))
     }
 
+    fn planned_is(answer: u64, refusal: Refusal) -> bool {
+        let taken = catch_unwind(|| planned(answer, &[0; PLAN_CELLS]));
+        taken.is_ok_and(|taken| taken == Err(refusal))
+    }
+
+    fn written_is(answer: u64, refusal: Refusal) -> bool {
+        catch_unwind(|| written(answer, LONGEST_IMAGE)).is_ok_and(|taken| taken == Err(refusal))
+    }
+
     fn checked_is(answer: u64, refusal: Refusal) -> bool {
         catch_unwind(|| checked(answer)).is_ok_and(|taken| taken == Err(refusal))
     }
@@ -261,6 +388,7 @@ mod tests {
         // No length: too small, no multiple of 11, longer than the buffer or than any image.
         for (answer, room) in [(0, 99), (11, 99), (23, 99), (33, 32), (50_710, 60_000)] {
             assert!(catch_unwind(|| built(answer, room)).is_err(), "{answer}");
+            assert!(catch_unwind(|| written(answer, room)).is_err(), "{answer}");
         }
         for answer in [1, UNKNOWN, UNKNOWN + 1, refused(11, 1), refused(13, 512)] {
             assert!(catch_unwind(|| checked(answer)).is_err(), "{answer}");
@@ -294,6 +422,7 @@ mod tests {
         // No number of a reason, a place that the reason does not name, a place out of range.
         for answer in [
             refused(18, 0),
+            refused(19, 0),
             u64::MAX,
             refused(9, 1),
             refused(6, 0),

@@ -1,5 +1,5 @@
-//! The two-choice tag index for a Rust service: building an image from a list, checking it, looking
-//! up tags in it, and placing a group by itself.
+//! The two-choice tag index for a Rust service: building an image from a list, at once or by a plan and
+//! the writing of the image under it, checking it, looking up tags in it, and placing a group by itself.
 //!
 //! The work is done by the proved functions behind the C boundary; this crate lends them slices and
 //! takes their answers apart. Every function takes any bytes and any numbers, and its answer depends
@@ -16,6 +16,11 @@
 //! assert_eq!(index.lookup(4), None);
 //! // An image that nobody checked can be looked up in too, and a fault that is met is refused.
 //! assert_eq!(tag_index::lookup(image, 3)?, Some(2));
+//! // Building is two calls in turn: the seeds on one day, and the image under them at another time.
+//! let plan = tag_index::plan(&text)?;
+//! let mut later = [0; tag_index::LONGEST_IMAGE];
+//! let length = tag_index::write(&text, &plan, &mut later)?;
+//! assert_eq!(&later[..length], image);
 //! # Ok::<(), Box<dyn std::error::Error>>(())
 //! ```
 //!
@@ -31,6 +36,7 @@
 mod answer;
 mod index;
 mod list;
+mod planning;
 pub mod raw;
 mod refusal;
 
@@ -40,6 +46,8 @@ use std::fmt;
 pub use answer::UNKNOWN;
 pub use index::Index;
 pub use list::{list_text, TooWide, LARGEST_FIELD};
+pub use planning::{image_under, plan, plan_list, write, write_list, Plan, PLAN_BYTES};
+pub use raw::PLAN_CELLS;
 pub use refusal::{PlaceKind, Reason, Refusal};
 
 /// The most tags of a list, N.
@@ -54,7 +62,7 @@ pub const LARGEST_GROUP: usize = 32;
 /// The greatest seed limit, L.
 pub const LARGEST_LIMIT: u32 = 65_536;
 
-/// The most bytes of a list text that building examines; a longer one is refused with 5.
+/// The most bytes of a list text that is examined; a longer one is refused with 5.
 pub const LONGEST_TEXT: usize = 65_527;
 
 /// The bytes of the longest image, 11 × (1 + 512 + 4,096). A buffer of this length is never too
@@ -77,7 +85,9 @@ pub const fn image_length(groups: u32, count: usize) -> usize {
         .saturating_mul(11)
 }
 
-/// Builds the image of a list text at the beginning of `image` and answers its length.
+/// Builds the image of a list text at the beginning of `image` and answers its length: [`plan`], and
+/// then [`write()`] with the same text and this plan. A buffer that is too short is thus the last reason
+/// to refuse.
 ///
 /// The bytes behind the image stay as they were; a refusal leaves all of them as they were. A list
 /// with tag 0 is refused: plant numbering reserves it for an unwired point.
@@ -107,12 +117,12 @@ pub fn build(text: &[u8], image: &mut [u8]) -> Result<usize, Refusal> {
     answer::built(raw::build(text, image), image.len())
 }
 
-/// Why no image came of a list of numbers. Its [`source`](Error::source) says what is wrong.
+/// Why no image or no plan came of a list of numbers. Its [`source`](Error::source) says what is wrong.
 ///
 /// ```
 /// use std::error::Error;
 /// let error = tag_index::image_of(1, 9, &[5, 5]).unwrap_err();
-/// assert_eq!(error.to_string(), "building refused the list");
+/// assert_eq!(error.to_string(), "the list was refused");
 /// let cause = error.source().unwrap().to_string();
 /// assert_eq!(cause, "refusal 6: the tag at index 1 is not above the one before it");
 /// ```
@@ -120,7 +130,7 @@ pub fn build(text: &[u8], image: &mut [u8]) -> Result<usize, Refusal> {
 pub enum BuildError {
     /// B or L has no place in a list text.
     TooWide(TooWide),
-    /// Building refused the list.
+    /// Building or planning refused the list.
     Refused(Refusal),
 }
 
@@ -128,7 +138,7 @@ impl fmt::Display for BuildError {
     fn fmt(&self, f: &mut fmt::Formatter<'_>) -> fmt::Result {
         f.write_str(match self {
             BuildError::TooWide(_) => "no list text can say the list",
-            BuildError::Refused(_) => "building refused the list",
+            BuildError::Refused(_) => "the list was refused",
         })
     }
 }

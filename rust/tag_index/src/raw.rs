@@ -1,12 +1,18 @@
-//! The four functions of the C boundary, and a safe function over each that answers its 64-bit
+//! The six functions of the C boundary, and a safe function over each that answers its 64-bit
 //! number as it is. All `unsafe` of this crate stands here.
 //!
 //! Each function takes any bytes, numbers and lengths, and reads and writes only inside the ranges
 //! given: that is what is proved of them. What the proofs leave to the caller is that a pointer
 //! and a length are a valid range, and that the range written overlaps no other. A slice is such
-//! a range, a cell behind a reference too, and `&mut` is alone.
+//! a range, cells behind a reference too, and `&mut` is alone.
 
 #![allow(unsafe_code)]
+
+use crate::LARGEST_GROUP_COUNT;
+
+/// The cells of a plan: B, and the seed of each of the [`LARGEST_GROUP_COUNT`] groups that there can
+/// be.
+pub const PLAN_CELLS: usize = 1 + LARGEST_GROUP_COUNT as usize;
 
 mod c {
     extern "C" {
@@ -14,6 +20,14 @@ mod c {
         pub fn tag_index_build(
             text: *const u8,
             text_length: usize,
+            image: *mut u8,
+            image_length: usize,
+        ) -> u64;
+        pub fn tag_index_plan(text: *const u8, text_length: usize, plan: *mut u32) -> u64;
+        pub fn tag_index_write(
+            text: *const u8,
+            text_length: usize,
+            plan: *const u32,
             image: *mut u8,
             image_length: usize,
         ) -> u64;
@@ -39,6 +53,54 @@ pub fn build(text: &[u8], image: &mut [u8]) -> u64 {
     // SAFETY: both pointers and lengths come from slices that live through the call; `image` is
     // borrowed for writing, so `text` does not overlap it.
     unsafe { c::tag_index_build(text.as_ptr(), text.len(), image.as_mut_ptr(), image.len()) }
+}
+
+/// Planning's answer: B, with B in the first of the cells lent, the seed of group g in the one with
+/// index 1 + g, and 0 from group B on; or refusal number × 2^32 + place, with 0 in all of them.
+///
+/// ```
+/// use tag_index::raw::{plan, PLAN_CELLS};
+/// let mut cells = [9; PLAN_CELLS];
+/// let text = b"    2    9\n         1\n         2\n         3\n";
+/// assert_eq!(plan(text, &mut cells), 2);
+/// assert_eq!(cells[..3], [2, 0, 1]);
+/// assert_eq!(cells[3..], [0; 510]);
+/// assert_eq!(plan(b"    2    0\n", &mut cells), 4 << 32);
+/// assert_eq!(cells, [0; PLAN_CELLS]);
+/// ```
+pub fn plan(text: &[u8], plan: &mut [u32; PLAN_CELLS]) -> u64 {
+    // SAFETY: pointer and length come from a slice, and the other pointer from a reference to as many
+    // cells as a plan has; both live through the call. `plan` is borrowed for writing, so `text` does
+    // not overlap it.
+    unsafe { c::tag_index_plan(text.as_ptr(), text.len(), plan.as_mut_ptr()) }
+}
+
+/// Writing's answer: the image's length, or refusal number × 2^32 + place.
+///
+/// ```
+/// use tag_index::raw::{plan, write, PLAN_CELLS};
+/// let text = b"    1    9\n         1\n         3\n";
+/// let mut cells = [0; PLAN_CELLS];
+/// let mut image = [0; 44];
+/// assert_eq!(plan(text, &mut cells), 1);
+/// assert_eq!(write(text, &cells, &mut image), 44);
+/// // Seed 0 does not serve the group of 1 and 3.
+/// cells[1] = 0;
+/// assert_eq!(write(text, &cells, &mut image), 18 << 32);
+/// ```
+pub fn write(text: &[u8], plan: &[u32; PLAN_CELLS], image: &mut [u8]) -> u64 {
+    // SAFETY: both pointers with a length come from slices, and the third from a reference to as many
+    // cells as a plan has; all live through the call. `image` is borrowed for writing, so neither
+    // `text` nor `plan` overlaps it.
+    unsafe {
+        c::tag_index_write(
+            text.as_ptr(),
+            text.len(),
+            plan.as_ptr(),
+            image.as_mut_ptr(),
+            image.len(),
+        )
+    }
 }
 
 /// Checking's answer: 0 if accepted, or refusal number × 2^32 + place.

@@ -6,16 +6,17 @@ use std::fmt;
 use crate::LARGEST_GROUP;
 
 /// Why an operation refuses: what is the matter with its input. Document 01 numbers them 1 to 16 and
-/// document 02, §1, 17, in this order; more can come, so a `match` needs an arm for the rest.
+/// document 02, §1 and §3, 17 and 18, in this order; more can come, so a `match` needs an arm for the
+/// rest.
 ///
-/// Over the C boundary the first three never come: they belong to "place of one tag".
+/// Over the C boundary 1 and 3 never come: they belong to "place of one tag".
 #[derive(Debug, Clone, Copy, PartialEq, Eq, PartialOrd, Ord, Hash)]
 #[non_exhaustive]
 #[repr(u8)]
 pub enum Reason {
     /// 1: the size of a group is not 1 to 32.
     SizeOutOfRange = 1,
-    /// 2: a seed is above 65,535.
+    /// 2: a seed is above 65,535; from writing, the seed of a group in the plan.
     SeedOutOfRange = 2,
     /// 3: a choice is above 1.
     ChoiceOutOfRange = 3,
@@ -47,6 +48,8 @@ pub enum Reason {
     MalformedList = 16,
     /// 17: a tag is 0, which is reserved for an unwired point.
     UnwiredTag = 17,
+    /// 18: no choice sequence fills a group under its seed in the plan.
+    SeedDoesNotServe = 18,
 }
 
 /// What a refusal's place counts, from 0. More kinds can come.
@@ -57,7 +60,7 @@ pub enum PlaceKind {
     Line,
     /// An index in the list of tags.
     Index,
-    /// A group; from placing, which has one, always 0.
+    /// A group; from placing and from "place of one tag", which have one, always 0.
     Group,
     /// A slot of the image: slot j is line 1 + B + j.
     Slot,
@@ -86,9 +89,10 @@ impl Reason {
         Reason::RepeatedTag,
         Reason::MalformedList,
         Reason::UnwiredTag,
+        Reason::SeedDoesNotServe,
     ];
 
-    /// The papers' number of this reason, 1 to 17.
+    /// The papers' number of this reason, 1 to 18.
     ///
     /// ```
     /// assert_eq!(tag_index::Reason::NoSeed.number(), 7);
@@ -97,12 +101,12 @@ impl Reason {
         self as u32
     }
 
-    /// The reason with this number, if it is 1 to 17.
+    /// The reason with this number, if it is 1 to 18.
     ///
     /// ```
     /// use tag_index::Reason;
-    /// assert_eq!(Reason::from_number(17), Some(Reason::UnwiredTag));
-    /// assert_eq!(Reason::from_number(18), None);
+    /// assert_eq!(Reason::from_number(18), Some(Reason::SeedDoesNotServe));
+    /// assert_eq!(Reason::from_number(19), None);
     /// ```
     pub fn from_number(number: u32) -> Option<Reason> {
         Reason::ALL
@@ -123,7 +127,11 @@ impl Reason {
         match self {
             Reason::MalformedLine | Reason::MalformedList => Some(PlaceKind::Line),
             Reason::NotAscending => Some(PlaceKind::Index),
-            Reason::NoSeed | Reason::GroupTooLarge | Reason::FaultyGroup => Some(PlaceKind::Group),
+            Reason::SeedOutOfRange
+            | Reason::NoSeed
+            | Reason::GroupTooLarge
+            | Reason::FaultyGroup
+            | Reason::SeedDoesNotServe => Some(PlaceKind::Group),
             Reason::WrongSlot | Reason::RepeatedTag => Some(PlaceKind::Slot),
             Reason::UnwiredTag => Some(PlaceKind::IndexOrSlot),
             _ => None,
@@ -162,7 +170,7 @@ impl fmt::Display for Refusal {
             Reason::SizeOutOfRange => {
                 write!(f, "the size of the group is not 1 to {LARGEST_GROUP}")
             }
-            Reason::SeedOutOfRange => write!(f, "the seed is above 65535"),
+            Reason::SeedOutOfRange => write!(f, "the seed of group {place} is above 65535"),
             Reason::ChoiceOutOfRange => write!(f, "the choice is above 1"),
             Reason::LimitOutOfRange => write!(f, "the seed limit L is not 1 to 65536"),
             Reason::TooManyTags => write!(
@@ -199,6 +207,12 @@ impl fmt::Display for Refusal {
                 f,
                 "the tag at index or slot {place} is 0, which is reserved for an unwired point"
             ),
+            Reason::SeedDoesNotServe => {
+                write!(
+                    f,
+                    "no choice sequence fills group {place} under its seed in the plan"
+                )
+            }
         }
     }
 }

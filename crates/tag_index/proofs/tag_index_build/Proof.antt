@@ -10,11 +10,12 @@ use Rattle.refusal.specs.Outcome.{Outcome}
 use Rattle.building.specs.Answer.{buildOutcome}
 use Rattle.building.specs.declared.BuildAnswer.{BuildAnswer}
 use Rattle.numbering.specs.FromText.{bufferFromText}
+use Rattle.from_text.specs.Condition3.{TextCondition3}
 use Rattle.from_text.specs.PromiseLaws.{TextPromised}
 use Rattle.refusal.specs.PlaceLaws.{place-below}
 use Rattle.from_text.specs.PlaceLaws.{textLines, from-text-place}
-use Rattle.tag_index.specs.Answer64.{answer64, outcome64, buildAnswer}
-use Rattle.tag_index.specs.Answer64Laws.{outcome-answer, build-fits}
+use Rattle.tag_index.specs.Answer64.{answer64, buildAnswer}
+use Rattle.tag_index.specs.Answer64Laws.{promised64, build-fits}
 use Rattle.tag_index.specs.Condition3.{BuildCondition3}
 use Rattle.tag_index.proofs.tag_index_build.Statement.{statement}
 use Rattle.tag_index.proofs.tag_index_build.Tie as tie
@@ -27,14 +28,14 @@ refusal-answer-requires c κs =
     let refused = sym (built .build-from-text .ensures .0) ∙ ap buildOutcome (told .refusal .given .1) in
     omega (arith, place-below textLines (from-text-place (a .text .now) _) refused)
 
--- The answer, the bytes, and Condition 3 of the answer: the outcome that it is taken apart into is the one that building came to.
+-- The answer, the bytes, and Condition 3 of the answer.
 promised : (text before after : List ℕ) (r : ℕ) (outcome : Outcome ℕ) → TextPromised text before outcome after → r ≡ answer64 outcome
     → (r ≡ buildAnswer text (length before)) × ((after ≡ bufferFromText text before) × BuildCondition3 text before r after)
 unfolding buildAnswer
 promised text before after r outcome (told, (bytes, condition3)) answer =
-    let of-outcome = answer ∙ ap answer64 told in
-    let taken-apart = ap outcome64 of-outcome ∙ outcome-answer _ (build-fits text (length before)) ∙ sym told in
-    (of-outcome, (bytes, rw taken-apart condition3))
+    let (is, of-answer) =
+    promised64 _ (build-fits text (length before)) (λ o. TextCondition3 text (length before) o after) told answer condition3 in
+    (is, (bytes, of-answer))
 
 returns : tie.Need-returns
 unfolding answer64

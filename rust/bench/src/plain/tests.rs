@@ -1,7 +1,7 @@
 //! The plain version held against the model: every operation, on whole and damaged texts.
 
-use super::{build, check, lookup, place_group, LARGEST_GROUP};
-use model::{answer_build, answer_check, answer_lookup, list_text};
+use super::{build, check, lookup, place_group, plan, write, LARGEST_GROUP, PLAN_CELLS};
+use model::{answer_build, answer_check, answer_lookup, answer_plan, answer_write, list_text};
 use random::Random;
 
 /// Builds with both versions in a buffer of `room` bytes; answers the image.
@@ -16,6 +16,33 @@ fn built(text: &[u8], room: usize) -> Option<Vec<u8>> {
     );
     assert_eq!(plain, stated);
     (answer >> 32 == 0).then(|| plain[..answer as usize].to_vec())
+}
+
+/// Plans with both versions; answers the plan, zeros if it is refused.
+fn planned(text: &[u8]) -> [u32; PLAN_CELLS] {
+    let (mut plain, mut stated) = ([9; PLAN_CELLS], [8; PLAN_CELLS]);
+    assert_eq!(
+        plan(text, &mut plain),
+        answer_plan(text, &mut stated),
+        "{}",
+        String::from_utf8_lossy(text)
+    );
+    assert_eq!(plain, stated);
+    plain
+}
+
+/// Writes with both versions in a buffer of `room` bytes; answers what they answer.
+fn written(text: &[u8], plan: &[u32; PLAN_CELLS], room: usize) -> u64 {
+    let (mut plain, mut stated) = (vec![b'.'; room], vec![b'.'; room]);
+    let answer = write(text, plan, &mut plain);
+    assert_eq!(
+        answer,
+        answer_write(text, plan, &mut stated),
+        "{}",
+        String::from_utf8_lossy(text)
+    );
+    assert_eq!(plain, stated);
+    answer
 }
 
 fn checked_and_looked_up(image: &[u8], tags: &[u32]) {
@@ -43,6 +70,15 @@ fn all_operations(random: &mut Random, groups: u32, limit: u32, tags: &[u32]) {
     }
     let text = list_text(groups, limit, tags);
     let length = 11 * (1 + groups as usize + tags.len());
+    let mut plan = planned(&text);
+    written(&text, &plan, length);
+    written(&text, &plan, length - 1);
+    // Other seeds: they may serve.
+    for _ in 0..3 {
+        plan[0] = groups;
+        plan[1 + random.below(groups as usize)] = random.below(9) as u32;
+        written(&text, &plan, length);
+    }
     let Some(image) = built(&text, length + random.below(3)) else {
         return;
     };
@@ -89,7 +125,9 @@ fn many_tags() {
     all_operations(&mut random, 512, 65_536, &tags);
     for count in [4_097, 5_000, 5_957] {
         let tags = random.tags(count);
-        built(&list_text(512, 9, &tags), 60_000);
+        let text = list_text(512, 9, &tags);
+        built(&text, 60_000);
+        written(&text, &planned(&text), 60_000);
     }
 }
 
@@ -112,11 +150,47 @@ fn ranges_and_order() {
                 (0..=LARGEST_GROUP as u32).collect(),
             ] {
                 placed(&tags, limit);
+                let text = list_text(groups, limit, &tags);
+                let mut plan = planned(&text);
+                plan[0] = groups;
                 for room in [0, 32, 33, 44, 60_000] {
-                    built(&list_text(groups, limit.min(99_999), &tags), room);
+                    built(&text, room);
+                    written(&text, &plan, room);
+                    let mut no_seed = plan;
+                    no_seed[2] = 65_536;
+                    written(&text, &no_seed, room);
                 }
             }
         }
+    }
+}
+
+#[test]
+fn plans_of_other_lists() {
+    let mut random = Random::new(5);
+    let mut met = [0; 19];
+    for _ in 0..2_000 {
+        let groups = [1, 2, 3, 8, 17][random.below(5)];
+        let counts = [(); 2].map(|()| random.below(4 * groups as usize));
+        let [day, shift] = counts.map(|count| random.tags(count));
+        let mut plan = planned(&list_text(groups, 65_536, &day));
+        match random.below(9) {
+            0 => plan[0] = [0, 512, 513, u32::MAX][random.below(4)],
+            1 => plan[1 + random.below(20)] = [65_535, 65_536, u32::MAX][random.below(3)],
+            2 => plan[0] += 1,
+            _ => {}
+        }
+        let mut text = list_text(99_999, 0, &shift);
+        if random.below(20) == 0 {
+            let at = random.below(text.len());
+            text[at] = b'x';
+        }
+        let room = 11 * (1 + plan[0].min(512) as usize + shift.len());
+        let answer = written(&text, &plan, room - usize::from(random.below(20) == 0));
+        met[(answer >> 32) as usize] += 1;
+    }
+    for number in [0, 2, 8, 9, 16, 18] {
+        assert!(met[number] > 9, "{number}: {met:?}");
     }
 }
 
@@ -158,6 +232,7 @@ fn damaged_texts() {
             }
         }
         built(&text, 200);
+        written(&text, &planned(&text), 200);
         if answer >> 32 == 0 {
             tags.push(0);
             checked_and_looked_up(&image, &tags);

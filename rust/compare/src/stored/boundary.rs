@@ -1,15 +1,18 @@
-//! The cases of `cases_boundary`: the 64-bit answers of the four functions, for the whole case and
-//! for refusals of each.
+//! The cases of `cases_boundary`: the 64-bit answers of the six functions, for the whole case and for
+//! refusals of each.
 
 use super::Output;
 use crate::groups::PATH;
 
+const WHOLE_CASE: &[u8] = b"    2    9\n         1\n         2\n         3\n";
+const DESCENDING: &[u8] = b"    2    9\n         1\n         3\n         2\n";
+const WITH_TAG_0: &[u8] = b"    2    9\n         0\n         1\n         2\n";
+const FIVE_TAGS: &[u8] =
+    b"    2    9\n         1\n         2\n         3\n         4\n         5\n";
+
 pub fn write(output: &mut Output) {
     let texts: [(&str, &[u8]); 9] = [
-        (
-            "whole case",
-            b"    2    9\n         1\n         2\n         3\n",
-        ),
+        ("whole case", WHOLE_CASE),
         ("no bytes", b""),
         (
             "line 2 malformed",
@@ -17,18 +20,9 @@ pub fn write(output: &mut Output) {
         ),
         ("B = 0", b"    0    9\n         1\n"),
         ("L = 0", b"    2    0\n         1\n"),
-        (
-            "tag 2 after tag 3",
-            b"    2    9\n         1\n         3\n         2\n",
-        ),
-        (
-            "a list with tag 0",
-            b"    2    9\n         0\n         1\n         2\n",
-        ),
-        (
-            "buffer of 77 for an image of 88 bytes",
-            b"    2    9\n         1\n         2\n         3\n         4\n         5\n",
-        ),
+        ("tag 2 after tag 3", DESCENDING),
+        ("a list with tag 0", WITH_TAG_0),
+        ("buffer of 77 for an image of 88 bytes", FIVE_TAGS),
         (
             "a seed above 0 with L = 1",
             b"    2    1\n         1\n         2\n         3\n",
@@ -41,9 +35,95 @@ pub fn write(output: &mut Output) {
         output.words(image);
         output.words("\n");
     }
+    plans(output);
+    writing(output);
     long_texts(output);
     images(output);
     groups(output);
+}
+
+/// Plans into cells that all hold 9.
+fn planned(output: &mut Output, name: &str, text: &[u8]) {
+    let mut cells = [9; 513];
+    let answer = model::answer_plan(text, &mut cells);
+    output.words(format!("{name}: {answer}\n  cells"));
+    output.numbers(&cells);
+    output.words("\n");
+}
+
+fn plans(output: &mut Output) {
+    let texts: [(&str, &[u8]); 8] = [
+        ("plan of the whole case", WHOLE_CASE),
+        ("plan of no bytes", b""),
+        (
+            "plan, line 2 malformed",
+            b"    2    9\n         1\n        02\n         3\n",
+        ),
+        ("plan, B = 513", b"  513    9\n         1\n"),
+        ("plan, L = 65537", b"    265537\n         1\n"),
+        ("plan, tag 2 after tag 3", DESCENDING),
+        ("plan, a list with tag 0", WITH_TAG_0),
+        (
+            "plan, seeds 1 and 2 with L = 2",
+            b"    2    2\n         1\n         3\n         4\n         9\n        12\n",
+        ),
+    ];
+    for (name, text) in texts {
+        planned(output, name, text);
+    }
+}
+
+/// Writes with a plan of two seeds, and 4,294,967,295 behind them.
+fn written(output: &mut Output, name: &str, text: &[u8], plan: [u32; 3]) {
+    let mut cells = [u32::MAX; 513];
+    cells[..3].copy_from_slice(&plan);
+    let mut image = [b'.'; 77];
+    let answer = model::answer_write(text, &cells, &mut image);
+    output.words(format!("{name}: {answer}\n"));
+    output.words(image);
+    output.words("\n");
+}
+
+fn writing(output: &mut Output) {
+    let cases: [(&str, &[u8], [u32; 3]); 10] = [
+        ("writing of the whole case", WHOLE_CASE, [2, 0, 1]),
+        (
+            "writing, the text's B and L are 0 and 99999",
+            b"    099999\n         1\n         2\n         3\n",
+            [2, 65_535, 3],
+        ),
+        ("writing of no bytes, B = 0", b"", [0, 0, 0]),
+        (
+            "writing, the text's B malformed, B = 513",
+            b"   02    9\n         1\n",
+            [513, 0, 0],
+        ),
+        (
+            "writing, B = 513",
+            b"    2    9\n         1\n",
+            [513, 65_536, 0],
+        ),
+        (
+            "writing, seed 65536 in group 1, tag 2 after tag 3",
+            DESCENDING,
+            [2, 0, 65_536],
+        ),
+        ("writing, tag 2 after tag 3", DESCENDING, [2, 0, 1]),
+        ("writing, a list with tag 0", WITH_TAG_0, [2, 0, 1]),
+        (
+            "writing, buffer of 77 for an image of 88 bytes",
+            FIVE_TAGS,
+            [2, 0, 0],
+        ),
+        (
+            "writing, seed 0 does not serve group 1",
+            WHOLE_CASE,
+            [2, 0, 0],
+        ),
+    ];
+    for (name, text, plan) in cases {
+        written(output, name, text, plan);
+    }
 }
 
 /// The longest text that is examined, with its last line well formed and not; and one byte more.
@@ -56,7 +136,11 @@ fn long_texts(output: &mut Output) {
     answer("5956 tags", &longest);
     longest[65_526] = b' ';
     answer("last of 5957 lines malformed", &longest);
-    answer("65528 bytes", &[b' '; 65_528]);
+    let longer = [b' '; 65_528];
+    answer("65528 bytes", &longer);
+    planned(output, "plan of 65528 bytes", &longer);
+    let name = "writing of 65528 bytes, B = 0";
+    written(output, name, &longer, [0, 0, 0]);
 }
 
 fn images(output: &mut Output) {

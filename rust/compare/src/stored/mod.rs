@@ -13,6 +13,7 @@ mod leaf;
 mod list;
 mod long;
 mod placing;
+mod planning;
 mod printing;
 mod text;
 
@@ -27,6 +28,7 @@ const PROGRAMS: &[Program] = &[
     ("cases_text", text::write),
     ("cases_placing", placing::write),
     ("cases_exhausted", exhausted::write),
+    ("cases_planning", planning::write),
     ("cases_building", building::write),
     ("cases_image", image::write),
     ("cases_list", list::write),

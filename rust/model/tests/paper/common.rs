@@ -82,3 +82,13 @@ pub fn tags_of_group(group: u32, groups: u32, count: usize) -> Vec<u32> {
         .take(count)
         .collect()
 }
+
+/// As many tags of each group named, in one list.
+pub fn tags_of_groups(parts: &[(u32, usize)], groups: u32) -> Vec<u32> {
+    let mut tags: Vec<u32> = parts
+        .iter()
+        .flat_map(|&(group, count)| tags_of_group(group, groups, count))
+        .collect();
+    tags.sort_unstable();
+    tags
+}

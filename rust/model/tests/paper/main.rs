@@ -1,5 +1,5 @@
-//! The model held against document 01 and document 02, §1 and §2: worked values, traps, refusals,
-//! edges, agreement, tag 0 and groups of up to 32 tags.
+//! The model held against document 01 and document 02, §1 to §3: worked values, traps, refusals,
+//! edges, agreement, tag 0, groups of up to 32 tags, and planning and writing.
 
 mod agreement;
 mod common;
@@ -7,6 +7,7 @@ mod counts_and_buffers;
 mod figures;
 mod images;
 mod lists;
+mod plans;
 mod printer_and_boundary;
 mod refusals;
 mod thirty_two;

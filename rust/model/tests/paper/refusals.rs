@@ -1,6 +1,6 @@
 //! Each refusal with its place, in the order of the checks: where two conditions hold, the earlier decides.
 
-use crate::common::{group_without_seed, refusal, tags_of_group};
+use crate::common::{group_without_seed, refusal, tags_of_group, tags_of_groups};
 use model::{build, image_of, place_group, place_of_one_tag};
 
 #[test]
@@ -47,7 +47,7 @@ fn refusal_6_names_the_first_index_that_is_not_above_the_one_before() {
 }
 
 #[test]
-fn building_refuses_with_8_then_4_then_5_then_6_then_9_then_10_then_7() {
+fn building_refuses_with_8_then_4_then_5_then_6_then_10_then_7_then_9() {
     let mut none: [u8; 0] = [];
     let mut all = vec![0; 60_000];
     let equal = vec![5; 4_097];
@@ -63,24 +63,18 @@ fn building_refuses_with_8_then_4_then_5_then_6_then_9_then_10_then_7() {
     // Group 0 has no seed below 1, group 1 has 33 tags.
     let mut tags = [tags_of_group(0, 2, 32), tags_of_group(1, 2, 33)].concat();
     tags.sort_unstable();
-    assert_eq!(build(&tags, 2, 1, &mut none), Err(refusal(9, 0)));
+    assert_eq!(build(&tags, 2, 1, &mut none), Err(refusal(10, 1)));
     assert_eq!(build(&tags, 2, 1, &mut all), Err(refusal(10, 1)));
     let last_of_group_1 = *tags_of_group(1, 2, 33).last().unwrap();
     tags.retain(|&tag| tag != last_of_group_1);
-    assert_eq!(build(&tags, 2, 1, &mut none), Err(refusal(9, 0)));
+    assert_eq!(build(&tags, 2, 1, &mut none), Err(refusal(7, 0)));
     assert_eq!(build(&tags, 2, 1, &mut all), Err(refusal(7, 0)));
+    assert_eq!(build(&tags, 2, 65_536, &mut none), Err(refusal(9, 0)));
 }
 
 #[test]
 fn refusals_10_and_7_name_the_lowest_such_group() {
-    let list = |parts: &[(u32, usize)]| {
-        let mut tags: Vec<u32> = parts
-            .iter()
-            .flat_map(|&(group, count)| tags_of_group(group, 5, count))
-            .collect();
-        tags.sort_unstable();
-        tags
-    };
+    let list = |parts: &[(u32, usize)]| tags_of_groups(parts, 5);
     assert_eq!(
         image_of(&list(&[(1, 32), (2, 33), (4, 40)]), 5, 1),
         Err(refusal(10, 2))

@@ -4,7 +4,7 @@ use native.Mathlib.Omega.{arith}
 use Rattle.refusal.specs.Limits.{groupsMax}
 use Rattle.refusal.specs.LimitsLaws.{outside-below}
 use Rattle.refusal.specs.ChecksLaws.{met-true}
-use Rattle.numbering.specs.Building.{earlierChecks}
+use Rattle.numbering.specs.Planning.{earlierChecks}
 use Rattle.numbering.specs.BuildingLaws.{building-refused, buffer-kept}
 use borrow.Author.Needs.{needs}
 use Rattle.building.proofs.worked.build_without_groups.Statement.{statement}
@@ -14,9 +14,9 @@ returns : tie.Need-returns
 unfolding earlierChecks
 returns c =
     let built = c .before .before in
-    let a = built .before .before .before .before .args in
+    let a = built .before .before .before .before .before .args in
     let outcome = building-refused (a .tags .now) 0 1 _ 8 tt (met-true (outside-below 1 groupsMax 0 (omega arith))) in
-    (built .build .ensures .0 ∙ outcome, built .build .ensures .1 .0 ∙ buffer-kept (a .tags .now) 0 1 (a .buffer .now) outcome)
+    (built .build .ensures .0 ∙ outcome, built .build .ensures .1 .1 .0 ∙ buffer-kept (a .tags .now) 0 1 (a .buffer .now) outcome)
 
 pub build-without-groups-spec : {M : Type 1} → statement M
 build-without-groups-spec =

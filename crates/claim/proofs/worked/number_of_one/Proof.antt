@@ -7,7 +7,7 @@ use mathlib.Core.Option.{orElse}
 use Prim.Native.Nat.{ℕ}
 use native.Mathlib.Omega.{arith}
 use Rattle.refusal.specs.Limits.{outside}
-use Rattle.refusal.specs.Outcome.{answered, refused, followedBy}
+use Rattle.refusal.specs.Outcome.{answered, refused, followedBy, onAnswer}
 use Rattle.lists.specs.First.{first, metAt, isSome}
 use Rattle.refusal.specs.Checks.{met, inOrder}
 use Rattle.hash.specs.Formula.{product, highPart, hashed, groupOf, multiplier, placeOf}
@@ -22,7 +22,11 @@ use Rattle.image.specs.Sheet.{imageLength}
 use Rattle.image.specs.Lookup.{number, unknown}
 use Rattle.numbering.specs.Members.{select, members, startOf}
 use Rattle.numbering.specs.Number.{choiceOf, placeIn, numberOf}
-use Rattle.numbering.specs.Building.{seedTaken, choicesTaken, earlierChecks, buildingChecks, buildingOf}
+use Rattle.numbering.specs.Plan.{planOf, plannedGroups, plannedSeed}
+use Rattle.numbering.specs.Planning.{earlierChecks, planningChecks, planningOf, seedTaken, planAfter}
+use Rattle.numbering.specs.Writing.{choicesUnder, writingChecks, writingOf}
+use Rattle.numbering.specs.Building.{buildingOf}
+use Rattle.lists.specs.UpTo.{upTo}
 use Rattle.claim.specs.Claim.{foundIn, claimOf}
 use Rattle.claim.proofs.worked.number_of_one.Statement.{statement}
 use Rattle.claim.proofs.worked.number_of_one.Tie as tie
@@ -30,8 +34,9 @@ use Rattle.claim.proofs.worked.number_of_one.Tie as tie
 computed : claimOf (1 ∷ 2 ∷ []) 1 1 44 1 ≡ answered (number 1)
 unfolding orElse outside followedBy first metAt isSome met inOrder product highPart hashed groupOf multiplier
     placeOf occurs placeBy beginning leastFrom least feasible choiceNumber bothPlaces candidates leastSeed taken
-    notAbove startsUnwired imageLength select members startOf choiceOf placeIn numberOf seedTaken
-    choicesTaken buildingChecks earlierChecks buildingOf foundIn claimOf
+    notAbove startsUnwired imageLength select members startOf choiceOf placeIn numberOf onAnswer upTo
+    planOf plannedGroups plannedSeed earlierChecks planningChecks planningOf seedTaken planAfter choicesUnder
+    writingChecks writingOf buildingOf foundIn claimOf
 computed = refl
 
 same : {j : ℕ} → answered (number j) ≡ answered (number 1) → j ≡ 1

@@ -1,0 +1,4 @@
+pub mod Answer
+pub mod Arrays
+pub mod ArraysLaws
+pub mod PromiseLaws
