@@ -1,10 +1,9 @@
 -- Planning and then writing from one list text: behind a planning that answered it is building from that text. Assumes nothing.
-use mathlib.Core.Path.{_≡_, refl, sym, _∙_}
+use mathlib.Core.Path.{_≡_, sym, _∙_}
 use mathlib.Core.List.{List}
 use Prim.Native.Nat.{ℕ}
-use native.Mathlib.Omega.{arith}
-use Rattle.refusal.specs.Outcome.{Outcome, answered, refused}
-use Rattle.refusal.specs.OutcomeLaws.{followed-answered, followed-refused, left-answered}
+use Rattle.refusal.specs.Outcome.{answered}
+use Rattle.refusal.specs.OutcomeLaws.{answered-of-followed, followed-answered, left-answered}
 use Rattle.list.specs.Reading.{Listed}
 use Rattle.numbering.specs.Planning.{planningOf}
 use Rattle.numbering.specs.BuildingLaws.{building-as-written, buffer-as-written}
@@ -16,14 +15,7 @@ module _ (text : List ℕ) {planned : ℕ} (e : planningFromText text ≡ answer
   stated : (listed : Listed) × (listFromText text ≡ answered listed)
       × (planningOf (listed .tags) (listed .groups) (listed .limit) ≡ answered planned)
   unfolding planningFromText
-  stated = go (listFromText text) refl
-    where
-      go : (o : Outcome Listed) → listFromText text ≡ o
-          → (listed : Listed) × (listFromText text ≡ answered listed)
-          × (planningOf (listed .tags) (listed .groups) (listed .limit) ≡ answered planned)
-      go (answered listed) read = (listed, read, sym (followed-answered _ read) ∙ e)
-      go (refused number place) read =
-          absurd (let never = sym (followed-refused _ read) ∙ e in let z : _≡_ {A = ℕ} 0 1 = cc in omega arith)
+  stated = answered-of-followed (listFromText text) _ e
 
   pub text-answer : (room : ℕ) → writingFromText text (planFromText text) room ≡ buildingFromText text room
   unfolding writingFromText planFromText buildingFromText

@@ -35,6 +35,13 @@ module _ {A B : Type 0} where
   unfolding followedBy
   followed-refused next e = rw e
 
+  -- An answer of both comes from an answer of the first, on which the second answered.
+  pub answered-of-followed : (o : Outcome A) (next : A → Outcome B) {b : B} → followedBy o next ≡ answered b
+      → (a : A) × (o ≡ answered a) × (next a ≡ answered b)
+  unfolding followedBy
+  answered-of-followed (answered a) next e = (a, refl, e)
+  answered-of-followed (refused number place) next e = absurd (let z : _≡_ {A = ℕ} 0 1 = cc in omega arith)
+
   -- What is left behind an answer, and behind a refusal.
   pub left-answered : {o : Outcome A} {a : A} (this : A → B) (that : B) → o ≡ answered a → onAnswer o this that ≡ this a
   unfolding onAnswer

@@ -8,11 +8,12 @@ use native.Mathlib.Omega.{arith}
 use lib.Dec.{eqb}
 use borrow.Author.Tests.{lt-ltb, le-ltb}
 use Rattle.refusal.specs.Limits.{tagEnd, tagsMax, unwired}
-use Rattle.refusal.specs.Outcome.{Outcome, answered, refused, answeredBy, followedBy}
+use Rattle.refusal.specs.Outcome.{Outcome, answered, refused, answeredBy}
+use Rattle.refusal.specs.OutcomeLaws.{answered-of-followed}
 use Rattle.lists.specs.First.{metAt, isSome}
 use Rattle.refusal.specs.ChecksLaws.{inOrder-answered}
 use Rattle.refusal.specs.PlaceLaws.{PlaceBelow, Numbered, numbered-checks, numbered-followed, numbered-cond}
-use Rattle.list.specs.Reading.{Listed, readingChecks, readingOf}
+use Rattle.list.specs.Reading.{readingChecks, readingOf}
 use Rattle.hash.specs.Formula.{groupOf}
 use Rattle.image.specs.View.{View, viewOf, groupsIn, startIn, endIn, slotLineIn, slotIn}
 use Rattle.image.specs.Checking.{openingChecks, numberChecks, checkingChecks, checkingOf}
@@ -76,16 +77,6 @@ writing-numbered : (tags plan : List ℕ) (room : ℕ) → Numbered (writingOf t
 unfolding writingOf writingChecks
 writing-numbered tags plan room = numbered-checks (writingChecks tags plan room) _ refl tt
 
--- What is answered for the list that a text states, where the text is read.
-answered-read : (text : List ℕ) (next : Listed → Outcome ℕ) {n : ℕ} → followedBy (listFromText text) next ≡ answered n
-    → (listed : Listed) × (next listed ≡ answered n)
-unfolding followedBy
-answered-read text next {n} = go (listFromText text)
-  where
-    go : (o : Outcome Listed) → followedBy o next ≡ answered n → (listed : Listed) × (next listed ≡ answered n)
-    go (answered listed) e = (listed, e)
-    go (refused reason place) e = absurd (let z : _≡_ {A = ℕ} 0 1 = cc in omega arith)
-
 -- So every outcome of planning from a text fits,
 pub plan-fits : (text : List ℕ) → Fits (planningFromText text)
 unfolding planningFromText
@@ -97,7 +88,7 @@ plan-fits text =
   where
     small : (n : ℕ) → planningFromText text ≡ answered n → n < tagEnd
     small n e =
-        let (listed, told) = answered-read text _ e in
+        let (listed, read, told) = answered-of-followed (listFromText text) _ e in
         let (passes, every, is) = planning-says (listed .tags) (listed .groups) (listed .limit) told in
         omega (arith, is, earlier-groups (listed .tags) (listed .groups) (listed .limit) passes)
 
@@ -111,7 +102,7 @@ write-fits text plan room =
   where
     small : (n : ℕ) → writingFromText text plan room ≡ answered n → n < tagEnd
     small n e =
-        let (listed, told) = answered-read text _ e in
+        let (listed, read, told) = answered-of-followed (listFromText text) _ e in
         omega (arith, written-most (listed .tags) plan room told, longest-is)
 
 -- every outcome of building,
@@ -127,7 +118,7 @@ build-fits text room =
   where
     small : (n : ℕ) → buildingFromText text room ≡ answered n → n < tagEnd
     small n e =
-        let (listed, told) = answered-read text _ e in
+        let (listed, read, told) = answered-of-followed (listFromText text) _ e in
         omega (arith, answered-most (listed .tags) (listed .groups) (listed .limit) room told, longest-is)
 
 -- every outcome of checking,
