@@ -1,2 +1,4 @@
 pub mod Digits
 pub mod DigitsLaws
+pub mod Width
+pub mod WidthLaws
