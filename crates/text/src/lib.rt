@@ -115,26 +115,23 @@ pub fn read_field(bytes: &[u8], at: usize, width: usize) -> Field
     Field::Value(v * 10 + digit as u64)
 }
 
-// Writes the figure of n over the whole slice, from the right: in each column the last digit of what is left to write.
-fn write_figure(s: &mut [u8], n: u64)
+// Writes the figure of n over the whole slice, from the right: in each column the last digit of what is left to write, and a space
+// in those before the first digit's.
+fn write_figure(s: &mut [u8], n: u32)
     ensures bytes { λ _. ⌜ now (s .exit) ≡ figure (length (now (s .entry))) n ⌝ }
 {
     let mut i = s.len();
-    if i == 0 {
-        return;
-    }
-    i -= 1;
-    s[i] = b'0' + (n % 10) as u8;
-    let mut rest = n / 10;
+    let first = digits::first_column(n, i);
+    let mut rest = n;
     while 0 < i {
         i -= 1;
-        s[i] = column_byte(rest, (rest % 10) as u8);
+        s[i] = if first <= i { b'0' + (rest % 10) as u8 } else { b' ' };
         rest /= 10;
     }
 }
 
 // Writes the figure of n into a field of so many columns; the bytes before and after it stay.
-pub fn write_field(buffer: &mut [u8], at: usize, width: usize, n: u64)
+pub fn write_field(buffer: &mut [u8], at: usize, width: usize, n: u32)
     requires { ⌜ at + width ≤ length (now buffer) ⌝ }
     ensures bytes { λ _. ⌜ now (buffer .exit) ≡ writtenAt at (figure width n) (now (buffer .entry)) ⌝ }
 {
@@ -292,8 +289,8 @@ pub fn write_pair_line(buffer: &mut [u8], at: usize, a: u32, b: u32)
     requires { ⌜ at + lineLength ≤ length (now buffer) ⌝ }
     ensures bytes { λ _. ⌜ now (buffer .exit) ≡ writtenAt at (pairLine a b) (now (buffer .entry)) ⌝ }
 {
-    write_field(buffer, at, 5, a as u64);
-    write_field(buffer, at + 5, 5, b as u64);
+    write_field(buffer, at, 5, a);
+    write_field(buffer, at + 5, 5, b);
     buffer[at + 10] = b'\n';
 }
 
@@ -302,11 +299,11 @@ fn write_tag(buffer: &mut [u8], at: usize, t: u32)
     requires { ⌜ at + 10 ≤ length (now buffer) ⌝ }
     ensures bytes { λ _. ⌜ now (buffer .exit) ≡ writtenAt at (figure 10 t) (now (buffer .entry)) ⌝ }
 {
-    if t < 100000000 {
-        write_field(buffer, at, 10, t as u64);
+    if digits::width_of(t) <= 8 {
+        write_field(buffer, at, 10, t);
         return;
     }
-    write_field(buffer, at, 2, (t / 100000000) as u64);
+    write_field(buffer, at, 2, t / 100000000);
     digits::write_eight_digits(buffer, at + 2, t % 100000000);
 }
 
