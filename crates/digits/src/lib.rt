@@ -3,7 +3,7 @@ ghost use mathlib.Core.Path.{_≡_};
 ghost use Prim.Native.Nat.{_+_, _-_, _≤_, _<_};
 ghost use lib.ListN.{length};
 ghost use Rattle.lists.specs.Written.{writtenAt};
-ghost use Rattle.digits.specs.Digits.{digits, packed};
+ghost use Rattle.digits.specs.Digits.{digits, digitsFrom, packed};
 ghost use Rattle.digits.specs.Width.{widthOf};
 
 // How many columns n takes.
@@ -30,6 +30,20 @@ pub fn first_column(n: u32, columns: usize) -> usize
 {
     let width = width_of(n);
     if width < columns { columns - width } else { 0 }
+}
+
+// Writes the last digits of n over the whole slice, from the right. Before column `first` a space stands for 0.
+pub fn write_digits_from(s: &mut [u8], first: usize, n: u32)
+    ensures bytes { λ _. ⌜ now (s .exit) ≡ digitsFrom first (length (now (s .entry))) n ⌝ }
+{
+    let mut i = s.len();
+    let mut rest = n;
+    while 0 < i {
+        i -= 1;
+        let zero = if first <= i { b'0' } else { b' ' };
+        s[i] = zero + (rest % 10) as u8;
+        rest /= 10;
+    }
 }
 
 // The eight digits of n as characters, packed into one word: the first in the lowest byte.

@@ -115,19 +115,12 @@ pub fn read_field(bytes: &[u8], at: usize, width: usize) -> Field
     Field::Value(v * 10 + digit as u64)
 }
 
-// Writes the figure of n over the whole slice, from the right: in each column the last digit of what is left to write, and a space
-// in those before the first digit's.
+// Writes the figure of n over the whole slice.
 fn write_figure(s: &mut [u8], n: u32)
     ensures bytes { λ _. ⌜ now (s .exit) ≡ figure (length (now (s .entry))) n ⌝ }
 {
-    let mut i = s.len();
-    let first = digits::first_column(n, i);
-    let mut rest = n;
-    while 0 < i {
-        i -= 1;
-        s[i] = if first <= i { b'0' + (rest % 10) as u8 } else { b' ' };
-        rest /= 10;
-    }
+    let first = digits::first_column(n, s.len());
+    digits::write_digits_from(s, first, n);
 }
 
 // Writes the figure of n into a field of so many columns; the bytes before and after it stay.
@@ -299,11 +292,13 @@ fn write_tag(buffer: &mut [u8], at: usize, t: u32)
     requires { ⌜ at + 10 ≤ length (now buffer) ⌝ }
     ensures bytes { λ _. ⌜ now (buffer .exit) ≡ writtenAt at (figure 10 t) (now (buffer .entry)) ⌝ }
 {
-    if digits::width_of(t) <= 8 {
+    let first = digits::first_column(t, 10);
+    if 2 < first {
         write_field(buffer, at, 10, t);
         return;
     }
-    write_field(buffer, at, 2, t / 100000000);
+    let end = at + 2;
+    digits::write_digits_from(&mut buffer[at..end], first, t / 100000000);
     digits::write_eight_digits(buffer, at + 2, t % 100000000);
 }
 

@@ -20,6 +20,7 @@ mod soak;
 mod stored;
 mod tally;
 mod texts;
+mod widths;
 
 use std::env;
 use std::io::{self, Write};
@@ -224,6 +225,7 @@ fn compare(options: &Options) -> bool {
     groups::chosen(&mut tally, &mut random);
     plans::compare(&mut tally, &mut random, size);
     lists::compare(&mut tally, &mut random, size);
+    widths::compare(&mut tally, &mut random);
     texts::compare(&mut tally, &mut random, size);
     images::compare(&mut tally, &mut random, size);
     groups::compare(&mut tally, &mut random, size);
