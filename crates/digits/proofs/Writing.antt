@@ -17,8 +17,8 @@ pub record Writes (first w n i rest : ℕ) (bytes : List ℕ) : Type 0 where
   pub left : i ≤ w
   pub written : digitsFrom first i rest ++ drop i bytes ≡ digitsFrom first w n
 
--- What a digit is added to is '0' or a space.
-pub zero-most : {A B : Type 0} {zeroAt : ℕ} → (A × (zeroAt ≡ 48)) ⊎ (B × (zeroAt ≡ 32)) → zeroAt ≤ 48
+-- What a digit is added to is one of two, so it is no more than both.
+pub zero-most : {A B : Type 0} {zeroAt x y : ℕ} → (A × (zeroAt ≡ x)) ⊎ (B × (zeroAt ≡ y)) → zeroAt ≤ x + y
 zero-most (inl q) = omega (arith, q .1)
 zero-most (inr q) = omega (arith, q .1)
 

@@ -20,8 +20,9 @@ unfolding digitsFrom
 digitsFrom-length first zero n = refl
 digitsFrom-length first (suc w) n = simp (length-append, digitsFrom-length first w (n / 10)) (omega arith)
 
--- Digits behind those of m. Where the first column is none of theirs they have no spaces.
-digits-behind : (first w k m d : ℕ) → first ≤ w → d < 10 ^ k → digitsFrom first (w + k) (m * 10 ^ k + d) ≡ digitsFrom first w m ++ digits k d
+-- Digits behind those of m, where the first column comes before them.
+digits-behind : (first w k m d : ℕ) → first ≤ w → d < 10 ^ k
+    → digitsFrom first (w + k) (m * 10 ^ k + d) ≡ digitsFrom first w m ++ digits k d
 unfolding digits digitsFrom
 digits-behind first w zero m d le h =
     let e : w + 0 ≡ w = omega arith in

@@ -2,3 +2,4 @@ pub mod Digits
 pub mod DigitsLaws
 pub mod Width
 pub mod WidthLaws
+pub mod Examples
