@@ -118,9 +118,9 @@ fn written() {
 // The width of a number, its last digits in five columns, and its tag line.
 fn wide(n: u32) {
     report::number(n as u64);
-    report::words(b" takes ");
+    report::words(b" has width ");
     report::number(digits::width_of(n) as u64);
-    report::words(b" columns: \"");
+    report::words(b": \"");
     let mut field = [b'.'; 5];
     text::write_field(&mut field, 0, 5, n);
     report::words(&field);

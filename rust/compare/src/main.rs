@@ -225,10 +225,10 @@ fn compare(options: &Options) -> bool {
     groups::chosen(&mut tally, &mut random);
     plans::compare(&mut tally, &mut random, size);
     lists::compare(&mut tally, &mut random, size);
-    widths::compare(&mut tally, &mut random);
     texts::compare(&mut tally, &mut random, size);
     images::compare(&mut tally, &mut random, size);
     groups::compare(&mut tally, &mut random, size);
+    widths::compare(&mut tally, &mut random);
     if let Some(printer) = &options.printer {
         printing::compare(&mut tally, &mut random, size, printer);
     }

@@ -155,7 +155,7 @@ fn widths(output: &mut Output) {
     for n in ends.chain([u32::MAX]) {
         let value = u64::from(n);
         let width = width(value);
-        output.words(format!("{value} takes {width} columns: \""));
+        output.words(format!("{value} has width {width}: \""));
         let ten = figure(value, 10);
         output.words(&ten[5..]);
         output.words("\" \"");
