@@ -17,7 +17,7 @@ pub record Writes (first w n i rest : ℕ) (bytes : List ℕ) : Type 0 where
   pub left : i ≤ w
   pub written : digitsFrom first i rest ++ drop i bytes ≡ digitsFrom first w n
 
--- What a digit is added to is one of two, so it is no more than both.
+-- What a digit is added to is one of two numbers, so it is no more than their sum.
 pub zero-most : {A B : Type 0} {zeroAt x y : ℕ} → (A × (zeroAt ≡ x)) ⊎ (B × (zeroAt ≡ y)) → zeroAt ≤ x + y
 zero-most (inl q) = omega (arith, q .1)
 zero-most (inr q) = omega (arith, q .1)
@@ -32,6 +32,7 @@ drop-set k bytes v h =
     drop-cons (set bytes k v) k 0 (lt-length-set bytes k v h)
     ∙ rw (getD-set-same bytes k v 0 h, drop-set-lt (suc k) bytes k v (omega arith))
 
+-- One column more to the left.
 pub writes-turn : (first w n i rest : ℕ) (bytes : List ℕ) (zeroAt : ℕ) → Writes first w n i rest bytes → 0 < i
     → ((first ≤ i - 1) × (zeroAt ≡ 48)) ⊎ ((i - 1 < first) × (zeroAt ≡ 32))
     → Writes first w n (i - 1) (rest / 10) (set bytes (i - 1) (zeroAt + rest % 10))

@@ -9,7 +9,8 @@ unfoldable pub digits : ℕ → ℕ → List ℕ
 digits zero n = []
 digits (suc width) n = digits width (n / 10) ++ ((48 + n % 10) ∷ [])
 
--- The same, where a space stands for 0 before column `first`: 7 in three columns from the third on is "  7".
+-- The same, but before column `first` a digit is added to a space and not to '0', so that a 0 is a space there: 7 in three columns,
+-- with the third for its first digit, is "  7".
 unfoldable pub digitsFrom : ℕ → ℕ → ℕ → List ℕ
 digitsFrom first zero n = []
 digitsFrom first (suc width) n = digitsFrom first width (n / 10) ++ ((cond (leb first width) 48 32 + n % 10) ∷ [])

@@ -32,7 +32,7 @@ module _ (n : ℕ) where
   unfolding fits
   fits-true w one below = rw (le-leb 1 w one, lt-ltb n (10 ^ w) below)
 
-  -- Where it fits exactly from k on, k is the width.
+  -- The lowest at which it fits is the width.
   least-of-first : (k : ℕ) → fits n k ≡ true → ((j : ℕ) → j < k → fits n j ≡ false) → Width n k
   unfolding fits
   least-of-first k holds lowest =

@@ -1,4 +1,4 @@
-// How many columns a number takes, and eight digits at once: a tag's last eight.
+// Numbers in columns: how many one takes, its digits from a column on, and eight at once, a tag's last eight.
 ghost use mathlib.Core.Path.{_≡_};
 ghost use Prim.Native.Nat.{_+_, _-_, _≤_, _<_};
 ghost use lib.ListN.{length};
@@ -6,7 +6,7 @@ ghost use Rattle.lists.specs.Written.{writtenAt};
 ghost use Rattle.digits.specs.Digits.{digits, digitsFrom, packed};
 ghost use Rattle.digits.specs.Width.{widthOf};
 
-// How many columns n takes.
+// How many columns n takes: a range for each, in the order of the layout.
 pub fn width_of(n: u32) -> usize
     ensures answer { λ r. ⌜ r ≡ widthOf n ⌝ }
 {
@@ -32,7 +32,7 @@ pub fn first_column(n: u32, columns: usize) -> usize
     if width < columns { columns - width } else { 0 }
 }
 
-// Writes the last digits of n over the whole slice, from the right. Before column `first` a space stands for 0.
+// Writes the last digits of n over the whole slice, from the right; a 0 before column `first` is a space.
 pub fn write_digits_from(s: &mut [u8], first: usize, n: u32)
     ensures bytes { λ _. ⌜ now (s .exit) ≡ digitsFrom first (length (now (s .entry))) n ⌝ }
 {

@@ -287,7 +287,8 @@ pub fn write_pair_line(buffer: &mut [u8], at: usize, a: u32, b: u32)
     buffer[at + 10] = b'\n';
 }
 
-// Writes the figure of a tag in ten columns; the bytes before and after it stay. Most tags have nine digits or ten.
+// Writes the figure of a tag in ten columns; the bytes before and after it stay. Most tags have nine digits or ten: eight of them, and
+// those of a tag of eight, are written at once.
 fn write_tag(buffer: &mut [u8], at: usize, t: u32)
     requires { ⌜ at + 10 ≤ length (now buffer) ⌝ }
     ensures bytes { λ _. ⌜ now (buffer .exit) ≡ writtenAt at (figure 10 t) (now (buffer .entry)) ⌝ }
