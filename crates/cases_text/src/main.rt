@@ -124,11 +124,10 @@ fn wide(n: u32) {
     let mut field = [b'.'; 5];
     text::write_field(&mut field, 0, 5, n);
     report::words(&field);
-    report::words(b"\" \"");
+    report::words(b"\", line ");
     let mut line = [b'.'; 11];
     text::write_tag_line(&mut line, 0, n);
-    report::words(&line[..10]);
-    report::words(b"\"\n");
+    report::words(&line);
 }
 
 // The first number of each width and the last, up to the greatest. From six columns on five keep the last digits.

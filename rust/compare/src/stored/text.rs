@@ -158,8 +158,7 @@ fn widths(output: &mut Output) {
         output.words(format!("{value} has width {width}: \""));
         let ten = figure(value, 10);
         output.words(&ten[5..]);
-        output.words("\" \"");
-        output.words(ten);
-        output.words("\"\n");
+        output.words("\", line ");
+        output.words(line_of_tag(n));
     }
 }
