@@ -6,7 +6,7 @@ use random::Random;
 
 use crate::lists::{different, rebuild, tags_of_group, Case};
 use crate::plans::plan;
-use crate::tally::Tally;
+use crate::tally::{differs, shown, Tally};
 
 /// The first and the last number of each width, with the numbers next to them, from 1 to the greatest.
 fn ends(greatest: u32) -> Vec<u32> {
@@ -23,10 +23,17 @@ fn ends(greatest: u32) -> Vec<u32> {
 
 /// Builds, with a buffer of just the right length. All these lists are accepted.
 fn build(tally: &mut Tally, case: &Case) {
-    assert_eq!(
-        tally.build(&case.text(), case.length()),
-        case.length() as u64
-    );
+    accepted(case, tally.build(&case.text(), case.length()));
+}
+
+/// Ends the run if both sides refused what they must accept.
+fn accepted(case: &Case, answer: u64) {
+    if answer != case.length() as u64 {
+        let text = shown(&case.text());
+        differs(&format!(
+            "at the ends of widths: both sides answer {answer}\n{text}"
+        ));
+    }
 }
 
 pub fn compare(tally: &mut Tally, random: &mut Random) {
@@ -92,8 +99,10 @@ fn seeds(tally: &mut Tally) {
     let case = Case::new(512, 1, []);
     for first in (0..65_536).step_by(512) {
         let seeds: Vec<u32> = (first..first + 512).collect();
-        let answer = tally.write(&case.text(), &plan(&seeds), case.length());
-        assert_eq!(answer, case.length() as u64);
+        accepted(
+            &case,
+            tally.write(&case.text(), &plan(&seeds), case.length()),
+        );
     }
 }
 
