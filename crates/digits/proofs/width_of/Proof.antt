@@ -9,13 +9,13 @@ pub width-of-spec : {M : Type 1} → statement M
 width-of-spec =
     tie.close
     (tie.spec
-    (λ c. width-case _ 0 (λ h. omega arith) (omega arith))  -- returns
-    (λ c. width-case _ 1 (λ h. omega arith) (omega arith))  -- returns-2
-    (λ c. width-case _ 2 (λ h. omega arith) (omega arith))  -- returns-3
-    (λ c. width-case _ 3 (λ h. omega arith) (omega arith))  -- returns-4
-    (λ c. width-case _ 4 (λ h. omega arith) (omega arith))  -- returns-5
-    (λ c. width-case _ 5 (λ h. omega arith) (omega arith))  -- returns-6
-    (λ c. width-case _ 6 (λ h. omega arith) (omega arith))  -- returns-7
-    (λ c. width-case _ 7 (λ h. omega arith) (omega arith))  -- returns-8
-    (λ c. width-case _ 8 (λ h. omega arith) (omega arith))  -- returns-9
-    (λ c. width-case _ 9 (λ h. omega arith) (omega arith)))  -- returns-10
+    (λ c. omega (arith, width-case (c .before .before .args .n) 0 (λ h. omega arith) (omega arith)))  -- returns
+    (λ c. omega (arith, width-case (c .before .before .before .args .n) 1 (λ h. omega arith) (omega arith)))  -- returns-2
+    (λ c. omega (arith, width-case (c .before .before .before .before .args .n) 2 (λ h. omega arith) (omega arith)))  -- returns-3
+    (λ c. omega (arith, width-case (c .before .before .before .before .before .args .n) 3 (λ h. omega arith) (omega arith)))  -- returns-4
+    (λ c. omega (arith, width-case (c .before .before .before .before .before .args .n) 4 (λ h. omega arith) (omega arith)))  -- returns-5
+    (λ c. omega (arith, width-case (c .before .before .args .n) 5 (λ h. omega arith) (omega arith)))  -- returns-6
+    (λ c. omega (arith, width-case (c .before .before .before .args .n) 6 (λ h. omega arith) (omega arith)))  -- returns-7
+    (λ c. omega (arith, width-case (c .before .before .before .before .args .n) 7 (λ h. omega arith) (omega arith)))  -- returns-8
+    (λ c. omega (arith, width-case (c .before .before .before .before .before .args .n) 8 (λ h. omega arith) (omega arith)))  -- returns-9
+    (λ c. omega (arith, width-case (c .before .before .before .before .before .args .n) 9 (λ h. omega arith) (omega arith))))  -- returns-10
