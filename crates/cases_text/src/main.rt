@@ -1,4 +1,5 @@
-// Runs chosen cases of the text crate: figures and fields at their edges, the five kinds of line, and lines written.
+// Runs chosen cases of the text and digits crates: figures and fields at their edges, the five kinds of line, lines written, and the
+// width of numbers.
 use text::Field;
 use text::Pair;
 use text::Tag;
@@ -114,8 +115,49 @@ fn written() {
     report::words(b"\n");
 }
 
+// The width of a number, its last digits in five columns, and its tag line.
+fn wide(n: u32) {
+    report::number(n as u64);
+    report::words(b" has width ");
+    report::number(digits::width_of(n) as u64);
+    report::words(b": \"");
+    let mut field = [b'.'; 5];
+    text::write_field(&mut field, 0, 5, n);
+    report::words(&field);
+    report::words(b"\", line ");
+    let mut line = [b'.'; 11];
+    text::write_tag_line(&mut line, 0, n);
+    report::words(&line);
+}
+
+// The first number of each width and the last, up to the greatest. From six columns on five keep the last digits.
+fn widths() {
+    wide(0);
+    wide(1);
+    wide(9);
+    wide(10);
+    wide(99);
+    wide(100);
+    wide(999);
+    wide(1000);
+    wide(9999);
+    wide(10000);
+    wide(99999);
+    wide(100000);
+    wide(999999);
+    wide(1000000);
+    wide(9999999);
+    wide(10000000);
+    wide(99999999);
+    wide(100000000);
+    wide(999999999);
+    wide(1000000000);
+    wide(4294967295);
+}
+
 fn main() {
     fields();
     lines();
     written();
+    widths();
 }

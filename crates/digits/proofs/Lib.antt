@@ -1,2 +1,3 @@
 pub mod Tens
 pub mod Stores
+pub mod Writing

@@ -1,18 +1,46 @@
--- The digits of a number, pair by pair, and the bytes of a packed word. Assumes nothing.
-use mathlib.Core.Path.{_≡_, refl, sym, _∙_}
-use mathlib.Core.List.{List, [], _∷_, _++_}
-use Prim.Native.Nat.{ℕ, zero, suc, _+_, _*_, _/_, _%_, _<_}
+-- The digits of a number, pair by pair and behind those of another, and the bytes of a packed word. Assumes nothing.
+use mathlib.Core.Path.{_≡_, refl, sym, _∙_, ap}
+use mathlib.Core.List.{List, [], _∷_, _++_, append-nil, append-assoc}
+use Prim.Native.Nat.{ℕ, zero, suc, _+_, _*_, _/_, _%_, _^_, _≤_, _<_}
 use native.Mathlib.Omega.{arith}
-use native.Mathlib.Nat.{div-div-eq-div-mul}
+use native.Mathlib.Nat.{pow-suc, div-div-eq-div-mul}
 use lib.ListN.{length, length-append}
 use lib.Seq.{append-snoc}
-use Rattle.digits.specs.Digits.{digits, packed}
+use borrow.Author.Tests.{le-leb}
+use Rattle.digits.specs.Digits.{digits, digitsFrom, packed}
 
 -- As many as asked for, whatever the number.
 digits-length : (w n : ℕ) → length (digits w n) ≡ w
 unfolding digits
 digits-length zero n = refl
 digits-length (suc w) n = simp (length-append, digits-length w (n / 10)) (omega arith)
+
+pub digitsFrom-length : (first w n : ℕ) → length (digitsFrom first w n) ≡ w
+unfolding digitsFrom
+digitsFrom-length first zero n = refl
+digitsFrom-length first (suc w) n = simp (length-append, digitsFrom-length first w (n / 10)) (omega arith)
+
+-- Digits behind those of m, where the first column comes before them.
+digits-behind : (first w k m d : ℕ) → first ≤ w → d < 10 ^ k
+    → digitsFrom first (w + k) (m * 10 ^ k + d) ≡ digitsFrom first w m ++ digits k d
+unfolding digits digitsFrom
+digits-behind first w zero m d le h =
+    let e : w + 0 ≡ w = omega arith in
+    let f : m * 1 + d ≡ m = omega arith in
+    rw (e, f, append-nil)
+digits-behind first w (suc k) m d le h =
+    let e : w + suc k ≡ suc (w + k) = omega arith in
+    let f : (m * 10 ^ suc k + d) / 10 ≡ m * 10 ^ k + d / 10 = rw (pow-suc 10 k) (omega arith) in
+    let g : (m * 10 ^ suc k + d) % 10 ≡ d % 10 = rw (pow-suc 10 k) (omega arith) in
+    let l : d / 10 < 10 ^ k = omega (arith, pow-suc 10 k) in
+    rw (e, f, g, le-leb first (w + k) (omega arith), digits-behind first w k m (d / 10) le l, append-assoc)
+
+-- The last eight digits of a number.
+pub eight-behind : (first w n : ℕ) → first ≤ w
+    → digitsFrom first (w + 8) n ≡ digitsFrom first w (n / 100000000) ++ digits 8 (n % 100000000)
+eight-behind first w n le =
+    let whole : n ≡ n / 100000000 * 100000000 + n % 100000000 = omega arith in
+    ap (digitsFrom first (w + 8)) whole ∙ digits-behind first w 8 (n / 100000000) (n % 100000000) le (omega arith)
 
 -- A pair of digits.
 abbrev pub pair : ℕ → List ℕ

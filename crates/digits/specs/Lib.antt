@@ -1,2 +1,5 @@
 pub mod Digits
 pub mod DigitsLaws
+pub mod Width
+pub mod WidthLaws
+pub mod Examples

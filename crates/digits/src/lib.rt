@@ -1,9 +1,50 @@
-// Eight digits at once: a tag's last eight.
+// Numbers in columns: how many one takes, its digits from a column on, and eight at once, a tag's last eight.
 ghost use mathlib.Core.Path.{_≡_};
-ghost use Prim.Native.Nat.{_+_, _≤_, _<_};
+ghost use Prim.Native.Nat.{_+_, _-_, _≤_, _<_};
 ghost use lib.ListN.{length};
 ghost use Rattle.lists.specs.Written.{writtenAt};
-ghost use Rattle.digits.specs.Digits.{digits, packed};
+ghost use Rattle.digits.specs.Digits.{digits, digitsFrom, packed};
+ghost use Rattle.digits.specs.Width.{widthOf};
+
+// How many columns n takes: a range for each, in the order of the layout.
+pub fn width_of(n: u32) -> usize
+    ensures answer { λ r. ⌜ r ≡ widthOf n ⌝ }
+{
+    match n {
+        0..=9 => 1,
+        10..=99 => 2,
+        100..=999 => 3,
+        1000..=9999 => 4,
+        10000..=99999 => 5,
+        100000..=999999 => 6,
+        1000000..=9999999 => 7,
+        10000000..=99999999 => 8,
+        100000000..=999999999 => 9,
+        1000000000..=4294967295 => 10,
+    }
+}
+
+// The column of a field that n's first digit goes to, counted from 0: behind as many spaces as n leaves columns.
+pub fn first_column(n: u32, columns: usize) -> usize
+    ensures answer { λ r. ⌜ r ≡ columns - widthOf n ⌝ }
+{
+    let width = width_of(n);
+    if width < columns { columns - width } else { 0 }
+}
+
+// Writes the last digits of n over the whole slice, from the right; a 0 before column `first` is a space.
+pub fn write_digits_from(s: &mut [u8], first: usize, n: u32)
+    ensures bytes { λ _. ⌜ now (s .exit) ≡ digitsFrom first (length (now (s .entry))) n ⌝ }
+{
+    let mut i = s.len();
+    let mut rest = n;
+    while 0 < i {
+        i -= 1;
+        let zero = if first <= i { b'0' } else { b' ' };
+        s[i] = zero + (rest % 10) as u8;
+        rest /= 10;
+    }
+}
 
 // The eight digits of n as characters, packed into one word: the first in the lowest byte.
 fn eight_digits(n: u32) -> u64

@@ -2,5 +2,4 @@ pub mod Leading
 pub mod Lines
 pub mod Fields
 pub mod Examined
-pub mod Writing
 pub mod Parts

@@ -115,26 +115,16 @@ pub fn read_field(bytes: &[u8], at: usize, width: usize) -> Field
     Field::Value(v * 10 + digit as u64)
 }
 
-// Writes the figure of n over the whole slice, from the right: in each column the last digit of what is left to write.
-fn write_figure(s: &mut [u8], n: u64)
+// Writes the figure of n over the whole slice.
+fn write_figure(s: &mut [u8], n: u32)
     ensures bytes { λ _. ⌜ now (s .exit) ≡ figure (length (now (s .entry))) n ⌝ }
 {
-    let mut i = s.len();
-    if i == 0 {
-        return;
-    }
-    i -= 1;
-    s[i] = b'0' + (n % 10) as u8;
-    let mut rest = n / 10;
-    while 0 < i {
-        i -= 1;
-        s[i] = column_byte(rest, (rest % 10) as u8);
-        rest /= 10;
-    }
+    let first = digits::first_column(n, s.len());
+    digits::write_digits_from(s, first, n);
 }
 
 // Writes the figure of n into a field of so many columns; the bytes before and after it stay.
-pub fn write_field(buffer: &mut [u8], at: usize, width: usize, n: u64)
+pub fn write_field(buffer: &mut [u8], at: usize, width: usize, n: u32)
     requires { ⌜ at + width ≤ length (now buffer) ⌝ }
     ensures bytes { λ _. ⌜ now (buffer .exit) ≡ writtenAt at (figure width n) (now (buffer .entry)) ⌝ }
 {
@@ -292,21 +282,24 @@ pub fn write_pair_line(buffer: &mut [u8], at: usize, a: u32, b: u32)
     requires { ⌜ at + lineLength ≤ length (now buffer) ⌝ }
     ensures bytes { λ _. ⌜ now (buffer .exit) ≡ writtenAt at (pairLine a b) (now (buffer .entry)) ⌝ }
 {
-    write_field(buffer, at, 5, a as u64);
-    write_field(buffer, at + 5, 5, b as u64);
+    write_field(buffer, at, 5, a);
+    write_field(buffer, at + 5, 5, b);
     buffer[at + 10] = b'\n';
 }
 
-// Writes the figure of a tag in ten columns; the bytes before and after it stay. Most tags have nine digits or ten.
+// Writes the figure of a tag in ten columns; the bytes before and after it stay. Most tags have nine digits or ten: eight of them, and
+// those of a tag of eight, are written at once.
 fn write_tag(buffer: &mut [u8], at: usize, t: u32)
     requires { ⌜ at + 10 ≤ length (now buffer) ⌝ }
     ensures bytes { λ _. ⌜ now (buffer .exit) ≡ writtenAt at (figure 10 t) (now (buffer .entry)) ⌝ }
 {
-    if t < 100000000 {
-        write_field(buffer, at, 10, t as u64);
+    let first = digits::first_column(t, 10);
+    if 2 < first {
+        write_field(buffer, at, 10, t);
         return;
     }
-    write_field(buffer, at, 2, (t / 100000000) as u64);
+    let end = at + 2;
+    digits::write_digits_from(&mut buffer[at..end], first, t / 100000000);
     digits::write_eight_digits(buffer, at + 2, t % 100000000);
 }
 

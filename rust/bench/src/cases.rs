@@ -127,6 +127,13 @@ pub fn planned() -> Vec<Case> {
     cases
 }
 
+/// Lists that are printed: those of 512 groups.
+pub fn printed() -> Vec<Case> {
+    let mut cases = built();
+    cases.retain(|case| case.groups == 512);
+    cases
+}
+
 /// One group that no seed serves, so that all of them are tried.
 ///
 /// The tags are multiples of 2^28, 2^27 or 2^26, so their places under a seed depend on the seed's

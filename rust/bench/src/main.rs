@@ -1,8 +1,10 @@
 //! The bench: times of the proved index beside a plain Rust version and the standard library's containers.
 //!
-//!     bench                                   all tables
+//!     bench                                   all tables; it runs the repository's target/bin/printer
+//!     bench --printer PATH                    the same with another printer
 //!     bench --plots DIR                       the growth tables, and DIR/growth-*.svg
 //!     bench --count CASE VERSION REPETITIONS  one case, for counting instructions; `--count` alone names the cases
+//!     bench --print                           the plain version as an index printer
 
 mod cases;
 mod count;
@@ -13,16 +15,31 @@ mod tables;
 mod timing;
 mod versions;
 
+use std::io::{self, Read, Write};
 use std::path::Path;
 use std::process::ExitCode;
+
+/// Where `rt check printer` leaves the index printer.
+const PRINTER: &str = concat!(env!("CARGO_MANIFEST_DIR"), "/../../target/bin/printer");
 
 fn main() -> ExitCode {
     let words: Vec<String> = std::env::args().skip(1).collect();
     let words: Vec<&str> = words.iter().map(String::as_str).collect();
     match words[..] {
-        [] => {
-            tables::print();
+        [] | ["--printer", _] => {
+            let printer = Path::new(words.last().copied().unwrap_or(PRINTER));
+            if !printer.is_file() {
+                eprintln!("bench: there is no printer {}", printer.display());
+                return ExitCode::FAILURE;
+            }
+            tables::print(printer);
             growth::print();
+        }
+        ["--print"] => {
+            if let Err(error) = print_index() {
+                eprintln!("bench: {error}");
+                return ExitCode::FAILURE;
+            }
         }
         ["--plots", directory] => {
             if let Err(error) = growth::print().write(Path::new(directory)) {
@@ -38,9 +55,17 @@ fn main() -> ExitCode {
             }
         }
         _ => {
-            eprintln!("usage: bench [--plots DIR | --count [CASE VERSION REPETITIONS]]");
+            eprintln!("usage: bench [--printer PATH | --plots DIR | --count [CASE VERSION REPETITIONS] | --print]");
             return ExitCode::from(2);
         }
     }
     ExitCode::SUCCESS
+}
+
+/// The index printer, in plain Rust: a list text from standard input, an image or one line to standard
+/// output.
+fn print_index() -> io::Result<()> {
+    let mut text = Vec::new();
+    io::stdin().lock().read_to_end(&mut text)?;
+    io::stdout().lock().write_all(&plain::print(&text))
 }

@@ -1,5 +1,5 @@
-//! Building, checking and lookup of each case, planning, writing and placing: every version's time,
-//! with its results asserted.
+//! Building, checking and lookup of each case, planning, writing, placing and printing: every version's
+//! time, with its results asserted.
 
 use crate::cases::{self, Case, Groups, LIMIT};
 use crate::timing::{measure, median, print as print_samples, time, Sample, Timed, REPETITIONS};
@@ -7,6 +7,9 @@ use crate::versions::{Version, BOTH};
 use random::Random;
 use std::collections::HashMap;
 use std::hint::black_box;
+use std::io::{self, Write};
+use std::path::Path;
+use std::process::{Command, Stdio};
 use std::time::{Duration, Instant};
 use tag_index::{LONGEST_IMAGE, PLAN_CELLS};
 
@@ -22,7 +25,7 @@ struct Row {
     samples: Vec<Sample>,
 }
 
-pub fn print() {
+pub fn print(printer: &Path) {
     println!(
         "Times of one operation: medians of {REPETITIONS} repetitions, with the versions in turn."
     );
@@ -38,8 +41,10 @@ pub fn print() {
     rows.extend(built.iter().map(build));
     rows.extend(cases::unserved().iter().map(build_unserved));
     let planned = cases::planned();
+    let printed = cases::printed();
     rows.extend(planned.iter().map(plan));
     rows.extend(planned.iter().map(write));
+    rows.extend(printed.iter().map(|case| print_index(case, printer)));
     rows.extend(cases::placed().iter().map(place));
     rows.extend(built.iter().map(check));
     let mut random = Random::new(3);
@@ -266,6 +271,66 @@ fn write(case: &Case) -> Row {
     row(
         format!("write: {}", case.title),
         measure(1, versions.collect()),
+    )
+}
+
+/// The time of so many runs of a program that reads a text and writes an image, from its start to its end.
+fn time_runs(
+    program: &Path,
+    words: &[&str],
+    text: &[u8],
+    image: &[u8],
+    iterations: u32,
+) -> Duration {
+    let mut all = Duration::ZERO;
+    for _ in 0..iterations {
+        let begin = Instant::now();
+        let output = run(program, words, text).expect("the program runs");
+        all += begin.elapsed();
+        assert!(
+            output == image,
+            "{} writes another image",
+            program.display()
+        );
+    }
+    all
+}
+
+/// What a program writes for a text. The text fits the pipe, so nobody waits for the other.
+fn run(program: &Path, words: &[&str], text: &[u8]) -> io::Result<Vec<u8>> {
+    let mut child = Command::new(program)
+        .args(words)
+        .stdin(Stdio::piped())
+        .stdout(Stdio::piped())
+        .spawn()?;
+    child.stdin.take().expect("a pipe").write_all(text)?;
+    Ok(child.wait_with_output()?.stdout)
+}
+
+/// The index printer and a plain one, as programs.
+fn print_index(case: &Case, printer: &Path) -> Row {
+    let text = &case.text()[..];
+    let image = &image_of(case)[..];
+    let plain = &std::env::current_exe().expect("this program has a path");
+    row(
+        format!("print, as a program: {}", case.title),
+        measure(
+            1,
+            vec![
+                Timed {
+                    name: "proved",
+                    run: Box::new(move |iterations| {
+                        time_runs(printer, &[], text, image, iterations)
+                    }),
+                },
+                Timed {
+                    name: "plain",
+                    run: Box::new(move |iterations| {
+                        time_runs(plain, &["--print"], text, image, iterations)
+                    }),
+                },
+            ],
+        ),
     )
 }
 

@@ -74,7 +74,7 @@ pub fn compare(tally: &mut Tally, random: &mut Random, size: &Size) {
 
 /// Builds, and where that succeeds checks the image, looks up every tag and a few others, and
 /// builds again with the least limit that suffices and with one less.
-fn rebuild(tally: &mut Tally, random: &mut Random, case: &Case) {
+pub fn rebuild(tally: &mut Tally, random: &mut Random, case: &Case) {
     let text = case.text();
     let answer = tally.build(&text, case.length() + random.below(3));
     if answer >> 32 != 0 {

@@ -20,6 +20,7 @@ mod soak;
 mod stored;
 mod tally;
 mod texts;
+mod widths;
 
 use std::env;
 use std::io::{self, Write};
@@ -227,6 +228,7 @@ fn compare(options: &Options) -> bool {
     texts::compare(&mut tally, &mut random, size);
     images::compare(&mut tally, &mut random, size);
     groups::compare(&mut tally, &mut random, size);
+    widths::compare(&mut tally, &mut random);
     if let Some(printer) = &options.printer {
         printing::compare(&mut tally, &mut random, size, printer);
     }

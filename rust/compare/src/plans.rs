@@ -82,7 +82,7 @@ pub fn compare(tally: &mut Tally, random: &mut Random, size: &Size) {
 }
 
 /// The plan of these seeds, B as many as there are.
-fn plan(seeds: &[u32]) -> Cells {
+pub fn plan(seeds: &[u32]) -> Cells {
     let mut cells = [0; 513];
     cells[0] = seeds.len() as u32;
     cells[1..=seeds.len()].copy_from_slice(seeds);

@@ -12,7 +12,7 @@ use crate::groups::LAST_SEED;
 use crate::lists::{behind_0, large, structured, tags_of_group, Case, WITHOUT_PLACE_2};
 use crate::tally::{differs, shown, Tally};
 use crate::texts::damaged;
-use crate::Size;
+use crate::{widths, Size};
 
 pub fn compare(tally: &mut Tally, random: &mut Random, size: &Size, printer: &Path) {
     for (kind, text) in texts(random, size) {
@@ -85,6 +85,11 @@ fn texts(random: &mut Random, size: &Size) -> Vec<(&'static str, Vec<u8>)> {
     ] {
         texts.push(("lists with tag 0", case.text()));
     }
+    texts.extend(
+        widths::texts()
+            .into_iter()
+            .map(|text| ("ends of widths", text)),
+    );
     // Several conditions at once.
     for groups in [0, 1, 512, 513, 99_999] {
         for limit in [0, 1, 65_536, 65_537, 99_999] {

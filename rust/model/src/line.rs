@@ -3,14 +3,27 @@
 /// "Every line is 11 bytes: ten columns and a line feed (byte 10)."
 pub const LINE: usize = 11;
 
+/// "The least width, 1 at least, for which the number is below 10 to the power of that width."
+pub fn width(value: u64) -> usize {
+    let mut width = 1;
+    while value >= 10u64.pow(width) {
+        width += 1;
+    }
+    width as usize
+}
+
 /// "Each field is a base-ten figure, right-justified with spaces, without needless leading zeros;
 /// zero is one digit 0."
 ///
 /// Panics if the value has more digits than columns.
 pub fn figure(value: u64, columns: usize) -> Vec<u8> {
-    let field = format!("{value:>columns$}").into_bytes();
-    assert_eq!(field.len(), columns, "{value} needs more columns");
-    field
+    let width = width(value);
+    assert!(width <= columns, "{value} needs more columns");
+    let spaces = (width..columns).map(|_| b' ');
+    let digits = (0..width as u32)
+        .rev()
+        .map(|place| b'0' + (value / 10u64.pow(place) % 10) as u8);
+    spaces.chain(digits).collect()
 }
 
 /// The value of a field of at most ten columns, or nothing if the field is malformed.

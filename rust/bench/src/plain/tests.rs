@@ -1,6 +1,6 @@
 //! The plain version held against the model: every operation, on whole and damaged texts.
 
-use super::{build, check, lookup, place_group, plan, write, LARGEST_GROUP, PLAN_CELLS};
+use super::{build, check, lookup, place_group, plan, print, write, LARGEST_GROUP, PLAN_CELLS};
 use model::{answer_build, answer_check, answer_lookup, answer_plan, answer_write, list_text};
 use random::Random;
 
@@ -15,6 +15,7 @@ fn built(text: &[u8], room: usize) -> Option<Vec<u8>> {
         String::from_utf8_lossy(text)
     );
     assert_eq!(plain, stated);
+    assert_eq!(print(text), model::print_index(text));
     (answer >> 32 == 0).then(|| plain[..answer as usize].to_vec())
 }
 

@@ -1,8 +1,8 @@
-//! The cases of `cases_text`: figures and fields at their edges, the five kinds of line, and lines
-//! written.
+//! The cases of `cases_text`: figures and fields at their edges, the five kinds of line, lines written,
+//! and the width of numbers.
 
 use model::image::Image;
-use model::line::{figure, line_of_tag, line_of_two, read_figure, read_two, LINE};
+use model::line::{figure, line_of_tag, line_of_two, read_figure, read_two, width, LINE};
 
 use super::Output;
 
@@ -51,6 +51,7 @@ pub fn write(output: &mut Output) {
         one_line(output, line.as_bytes());
     }
     written(output);
+    widths(output);
 }
 
 /// A field that the bytes do not reach, or that has no column, holds no figure.
@@ -144,4 +145,20 @@ fn written(output: &mut Output) {
     let lines = put(22, &line_of_tag(1_234_567_890));
     output.words(lines);
     output.words("\n");
+}
+
+/// The first number of each width and the last. Five columns keep the last five digits of a number
+/// that has more.
+fn widths(output: &mut Output) {
+    let ends = (0..=9).map(|power| 10u32.pow(power));
+    let ends = ends.flat_map(|first| [first - 1, first]);
+    for n in ends.chain([u32::MAX]) {
+        let value = u64::from(n);
+        let width = width(value);
+        output.words(format!("{value} has width {width}: \""));
+        let ten = figure(value, 10);
+        output.words(&ten[5..]);
+        output.words("\", line ");
+        output.words(line_of_tag(n));
+    }
 }

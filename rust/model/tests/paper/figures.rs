@@ -1,7 +1,7 @@
 //! Hash formulas against exact arithmetic; figures against their grammar.
 
 use model::hash::{group_of, multiplier, place_of, G, K};
-use model::line::{figure, read_figure};
+use model::line::{figure, read_figure, width};
 use random::Random;
 
 #[test]
@@ -48,6 +48,24 @@ fn every_five_column_value_reads_back() {
     }
     assert_eq!(figure(0, 5), b"    0");
     assert_eq!(figure(4_294_967_295, 10), b"4294967295");
+}
+
+#[test]
+fn a_width_is_the_number_of_digits_and_a_figure_is_those_digits() {
+    let mut random = Random::new(3);
+    let ends = (0..=9).flat_map(|power| {
+        let first = 10u64.pow(power);
+        [first - 1, first, first + 1]
+    });
+    let random = (0..20_000).map(|_| u64::from(random.tag()) >> random.below(32));
+    let mut widths = [0; 11];
+    for value in ends.chain([u64::from(u32::MAX)]).chain(random) {
+        let digits = value.to_string();
+        assert_eq!(width(value), digits.len());
+        assert_eq!(figure(value, 10), format!("{digits:>10}").into_bytes());
+        widths[width(value)] += 1;
+    }
+    assert!(widths[0] == 0 && widths[1..].iter().all(|&count| count > 20));
 }
 
 #[test]
