@@ -1,12 +1,12 @@
 -- The width of a number, said without the search: every number has one, and no other. Assumes nothing.
 use mathlib.Core.Path.{_≡_, refl, sym, _∙_}
-use mathlib.Core.Bool.{Bool, true, false, false≢true}
+use mathlib.Core.Bool.{Bool, true, false, false≢true, _&&_}
 use mathlib.Core.Option.{Option, none, some, Option·getD}
 use Prim.Native.Nat.{ℕ, zero, suc, _+_, _^_, _≤_, _<_}
 use native.Mathlib.Omega.{arith}
 use native.Mathlib.Nat.{pow-suc, pow-le-pow-right}
 use lib.Dec.{leb, ltb}
-use borrow.Author.Tests.{le-leb, leb-true, lt-ltb, ltb-true, ltb-false}
+use borrow.Author.Tests.{le-leb, leb-true, ltb-true, ltb-false}
 use Rattle.lists.specs.BoolLaws.{both-of-and}
 use Rattle.lists.specs.First.{first}
 use Rattle.lists.specs.FirstLaws.{First, first-is}
@@ -27,10 +27,13 @@ enough : (n : ℕ) → n < 10 ^ suc n
 enough zero = omega arith
 enough (suc n) = omega (arith, pow-suc 10 (suc n), enough n)
 
+both : {a b : Bool} → a ≡ true → b ≡ true → (a && b) ≡ true
+both e f = rw (e, f)
+
 module _ (n : ℕ) where
   fits-true : (w : ℕ) → 1 ≤ w → n < 10 ^ w → fits n w ≡ true
   unfolding fits
-  fits-true w one below = rw (le-leb 1 w one, lt-ltb n (10 ^ w) below)
+  fits-true w one below = both (le-leb _ w (omega arith)) (le-leb _ (10 ^ w) (omega arith))
 
   -- The lowest at which it fits is the width.
   least-of-first : (k : ℕ) → fits n k ≡ true → ((j : ℕ) → j < k → fits n j ≡ false) → Width n k

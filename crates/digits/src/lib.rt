@@ -1,4 +1,6 @@
 // Numbers in columns: how many one takes, its digits from a column on, and eight at once, a tag's last eight.
+mod worked;
+
 ghost use mathlib.Core.Path.{_≡_};
 ghost use Prim.Native.Nat.{_+_, _-_, _≤_, _<_};
 ghost use lib.ListN.{length};

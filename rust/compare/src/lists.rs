@@ -73,12 +73,12 @@ pub fn compare(tally: &mut Tally, random: &mut Random, size: &Size) {
 }
 
 /// Builds, and where that succeeds checks the image, looks up every tag and a few others, and
-/// builds again with the least limit that suffices and with one less.
-pub fn rebuild(tally: &mut Tally, random: &mut Random, case: &Case) {
+/// builds again with the least limit that suffices and with one less. Answers what building answered.
+pub fn rebuild(tally: &mut Tally, random: &mut Random, case: &Case) -> u64 {
     let text = case.text();
     let answer = tally.build(&text, case.length() + random.below(3));
     if answer >> 32 != 0 {
-        return;
+        return answer;
     }
     let image = model::image_of(&case.tags, case.groups, case.limit).expect("it was built");
     tally.check(&image);
@@ -97,6 +97,7 @@ pub fn rebuild(tally: &mut Tally, random: &mut Random, case: &Case) {
         let tight = Case::new(case.groups, limit, case.tags.clone());
         tally.build(&tight.text(), case.length());
     }
+    answer
 }
 
 /// Tags that are mostly not listed. Each kind stands among the first five: both ends, a tag of an

@@ -2,6 +2,7 @@
 -- Assumes nothing.
 use borrow.Author.Needs.{needs}
 use mathlib.Core.Logic.{inl, inr, ⊎-elim}
+use native.Mathlib.Omega.{arith}
 use lib.ListN.{length}
 use Rattle.digits.proofs.Writing.{Writes, zero-most, writes-start, writes-turn, writes-end}
 use Rattle.digits.proofs.write_digits_from.Statement.{statement}
@@ -25,13 +26,13 @@ loop-again c =
     let joined = c .before in
     let turn = joined .before .before in
     writes-turn _ _ _ _ _ (turn .loop .s) _ (turn .loop .inv) (joined .before .loop-test .taken)
-    (⊎-elim (λ q. inl (q .0 .taken, q .1)) (λ q. inr (q .0 .left, q .1)) (joined .if1 .came))
+    (⊎-elim (λ q. inl (omega (arith, q .0 .taken), q .1)) (λ q. inr (omega (arith, q .0 .left), q .1)) (joined .if1 .came))
 
 same-length : tie.Need-same-length Inv-loop μ-loop
 same-length c = c .before .loop .inv .long
 
 returns : tie.Need-returns Inv-loop μ-loop
-returns c = writes-end _ _ _ _ _ (c .before .loop .s) (c .before .loop .inv) (c .loop-test .left)
+returns c = rw (writes-end _ _ _ _ _ (c .before .loop .s) (c .before .loop .inv) (c .loop-test .left))
 
 pub write-digits-from-spec : {M : Type 1} → statement M
 write-digits-from-spec =
