@@ -61,7 +61,7 @@ fn check_opened(image: &[u8], count: u32, groups: u32) -> CheckAnswer
 }
 
 // The refusal for a reason, at the line, group or slot that it names.
-fn refused(reason: Reason, place: usize) -> CheckAnswer
+pub fn refused(reason: Reason, place: usize) -> CheckAnswer
     ensures answer { λ r. ⌜ checkOutcome r ≡ refused (reasonNumber reason) place ⌝ }
 {
     CheckAnswer::Refused(Refusal { reason, place })
@@ -149,7 +149,7 @@ fn unwired_slot(tags: &[u32; TAG_CELLS], count: u32) -> First
 }
 
 // The lowest faulty group.
-fn faulty_group(starts: &[u32; START_CELLS], groups: u32) -> First
+pub fn faulty_group(starts: &[u32; START_CELLS], groups: u32) -> First
     requires { ⌜ groups ≤ groupsMax ⌝ }
     ensures answer { λ r. ⌜ firstMeaning r ≡ first (faultyAt (now (starts .entry))) groups ⌝ }
 {

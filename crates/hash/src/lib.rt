@@ -16,7 +16,7 @@ ghost use Rattle.hash.specs.Answer.{placeOutcome};
 // The multipliers G and K of document 01.
 const G: u32 = 2654435761;
 
-const K: u32 = 2246822507;
+pub const K: u32 = 2246822507;
 
 // What the operation "place of one tag" answers.
 pub enum PlaceAnswer {

@@ -13,13 +13,17 @@ use Rattle.text.specs.Line.{lineLength}
 use Rattle.image.specs.Sheet.{imageLength}
 use Rattle.image.specs.View.{View, viewOf, countIn, groupsIn, startIn, endIn, slotIn, faulty, candidateIn}
 
--- "11: fewer than 11 bytes. 12 at place 0: line 0 is malformed. 11: length is not 11 × (1 + B + N)." Lookup begins with them too.
-unfoldable pub openingChecks : View → List Check
-openingChecks v =
+-- "11: fewer than 11 bytes. 12 at place 0: line 0 is malformed. 11: length is not" the one that line 0 states, `whole`.
+abbrev pub openingFor : ℕ → View → List Check
+openingFor whole v =
     (11, met (ltb (v .size) lineLength))
     ∷ (12, met (not (isSome (v .header))))
-    ∷ (11, met (not (eqb (v .size) (imageLength (groupsIn v) (countIn v)))))
+    ∷ (11, met (not (eqb (v .size) whole)))
     ∷ []
+
+-- That is "11 × (1 + B + N)". Lookup begins with them too.
+unfoldable pub openingChecks : View → List Check
+openingChecks v = openingFor (imageLength (groupsIn v) (countIn v)) v
 
 -- Line k of the image is malformed: line 0, a group line or a slot line.
 unfoldable pub malformedIn : View → ℕ → Bool

@@ -6,6 +6,7 @@ pub mod Fair
 pub mod Checking
 pub mod Lookup
 pub mod LinesRead
+pub mod GroupLinesLaws
 pub mod UnwiredLaws
 pub mod FaultLaws
 pub mod CheckedLookupLaws

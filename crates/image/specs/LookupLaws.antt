@@ -25,12 +25,9 @@ use Rattle.image.specs.Lookup.{Found, number, unknown, groupChecks, look
 use Rattle.image.specs.Fair.{Fair}
 use Rattle.image.specs.FaultLaws.{fair-of-faulty}
 use Rattle.image.specs.LinesRead.{LinesRead, ownGroup, ownSlot}
+use Rattle.image.specs.GroupLinesLaws.{same-start, same-seed, same-end, group-agrees}
 use Rattle.image.specs.UnwiredLaws.{by-wired, lookup-unwired, lookup-wired, unwired-unanswered}
 use Rattle.image.specs.Holds.{HoldsTag, SlotHolds}
-
-and-cond : (a b : Bool) → (a && b) ≡ cond a b false
-and-cond true b = refl
-and-cond false b = refl
 
 -- Views of one length with one line 0 open alike.
 opening-agrees : (v w : View) → v .size ≡ w .size → v .header ≡ w .header → openingChecks v ≡ openingChecks w
@@ -59,121 +56,87 @@ module _ (v w : View) (t : ℕ) (wired : t ≡ unwired → ⊥) (same-size : v .
   same-opening : openingChecks v ≡ openingChecks w
   same-opening = opening-agrees v w same-size same-header
 
-  -- The tag's two slots looked at.
+  -- The tag's group, which is one in both, and its two slots looked at.
+  abbrev own : ℕ
+  own = ownGroup v t
+
   abbrev slotsOf : View → Outcome Found
-  slotsOf x = atSlot x t (ownSlot x 0 t) (atSlot x t (ownSlot x 1 t) (answered unknown))
+  slotsOf x = atSlot x t (candidateIn x own 0 t) (atSlot x t (candidateIn x own 1 t) (answered unknown))
 
-  -- The image opens: the tag's group line is read,
+  -- The image opens: the tag's group line is read, and where it is well formed the next one.
   module _ (opens : Pass (openingChecks v)) where
-    same-own : v .groupAt (suc (ownGroup v t)) ≡ w .groupAt (suc (ownGroup w t))
-    same-own = read .own wired opens .group ∙ rw same-groups
+    own-line : v .groupAt (suc own) ≡ w .groupAt (suc own)
+    own-line = read .own wired opens .group
 
-    same-start : startIn v (ownGroup v t) ≡ startIn w (ownGroup w t)
-    unfolding startIn
-    same-start = ap (λ (o : Option (ℕ × ℕ)). (Option·getD o (0, 0)) .0) same-own
+    next-line : isSome (v .groupAt (suc own)) ≡ true → suc own < groupsIn v → v .groupAt (suc (suc own)) ≡ w .groupAt (suc (suc own))
+    next-line well lt = read .next wired opens well lt .group
 
-    same-seed : seedIn v (ownGroup v t) ≡ seedIn w (ownGroup w t)
-    unfolding seedIn
-    same-seed = ap (λ (o : Option (ℕ × ℕ)). (Option·getD o (0, 0)) .1) same-own
+    module _ (well : isSome (v .groupAt (suc own)) ≡ true) where
+      start-agrees : startIn v own ≡ startIn w own
+      start-agrees = same-start v w own same-groups same-count own-line
 
-    -- and where it is well formed the next one, which counts only where there is a next group.
-    module _ (well : isSome (v .groupAt (suc (ownGroup v t))) ≡ true) where
-      same-next : {A : Type 0} (f : Option (ℕ × ℕ) → A) (d : A)
-          → cond (ltb (suc (ownGroup v t)) (groupsIn v)) (f (v .groupAt (suc (suc (ownGroup v t))))) d
-          ≡ cond (ltb (suc (ownGroup w t)) (groupsIn w)) (f (w .groupAt (suc (suc (ownGroup w t))))) d
-      same-next f d =
-          go (ltb (suc (ownGroup v t)) (groupsIn v)) refl
-          ∙ ap (λ (b : ℕ). cond (ltb (suc (groupOf b t)) b) (f (w .groupAt (suc (suc (groupOf b t))))) d) same-groups
-        where
-          go : (b : Bool) → ltb (suc (ownGroup v t)) (groupsIn v) ≡ b
-              → cond (ltb (suc (ownGroup v t)) (groupsIn v)) (f (v .groupAt (suc (suc (ownGroup v t))))) d
-              ≡ cond (ltb (suc (ownGroup v t)) (groupsIn v)) (f (w .groupAt (suc (suc (ownGroup v t))))) d
-          go true e = rw (read .next wired opens well (ltb-true (suc (ownGroup v t)) (groupsIn v) e) .group)
-          go false e = rw e
+      end-agrees : endIn v own ≡ endIn w own
+      end-agrees = same-end v w own same-groups same-count own-line (next-line well)
 
-      same-end : endIn v (ownGroup v t) ≡ endIn w (ownGroup w t)
-      unfolding endIn startIn
-      same-end =
-          ap (cond (ltb (suc (ownGroup v t)) (groupsIn v)) (startIn v (suc (ownGroup v t)))) same-count
-          ∙ same-next (λ o. (Option·getD o (0, 0)) .0) (countIn w)
-
-      -- "then at the next group's line if there is one"
-      same-malformed : (ltb (suc (ownGroup v t)) (groupsIn v) && not (isSome (v .groupAt (suc (suc (ownGroup v t))))))
-          ≡ (ltb (suc (ownGroup w t)) (groupsIn w) && not (isSome (w .groupAt (suc (suc (ownGroup w t))))))
-      same-malformed =
-          and-cond (ltb (suc (ownGroup v t)) (groupsIn v)) (not (isSome (v .groupAt (suc (suc (ownGroup v t))))))
-          ∙ same-next (λ o. not (isSome o)) false
-          ∙ sym (and-cond (ltb (suc (ownGroup w t)) (groupsIn w)) (not (isSome (w .groupAt (suc (suc (ownGroup w t)))))))
-
-      same-slot : (c : ℕ) → ownSlot v c t ≡ ownSlot w c t
+      same-slot : (c : ℕ) → candidateIn v own c t ≡ candidateIn w own c t
       unfolding candidateIn
-      same-slot c = cc (same-start, same-end, same-seed)
+      same-slot c = cc (start-agrees, end-agrees, same-seed v w own same-groups same-count own-line)
 
-      same-place : (c : ℕ) → slotLineIn v (ownSlot v c t) ≡ slotLineIn w (ownSlot w c t)
+      same-place : (c : ℕ) → slotLineIn v (candidateIn v own c t) ≡ slotLineIn w (candidateIn w own c t)
       unfolding slotLineIn
       same-place c = cc (same-groups, same-slot c)
 
       -- A slot looked at: equal lines, and what comes next only where the line is well formed and holds another tag.
-      slot-agrees : (c : ℕ) (o p : Outcome Found) → AgreeAt v w (slotLineIn v (ownSlot v c t))
-          → ((u : ℕ) → v .slotAt (slotLineIn v (ownSlot v c t)) ≡ some u → (u ≡ t → ⊥) → o ≡ p)
-          → atSlot v t (ownSlot v c t) o ≡ atSlot w t (ownSlot w c t) p
+      slot-agrees : (c : ℕ) (o p : Outcome Found) → AgreeAt v w (slotLineIn v (candidateIn v own c t))
+          → ((u : ℕ) → v .slotAt (slotLineIn v (candidateIn v own c t)) ≡ some u → (u ≡ t → ⊥) → o ≡ p)
+          → atSlot v t (candidateIn v own c t) o ≡ atSlot w t (candidateIn w own c t) p
       unfolding atSlot slotIn
       slot-agrees c o p same next = inOrder-agree _ _ _ _ (cc (line, same-place c), λ passes. held passes)
         where
-          line : v .slotAt (slotLineIn v (ownSlot v c t)) ≡ w .slotAt (slotLineIn w (ownSlot w c t))
+          line : v .slotAt (slotLineIn v (candidateIn v own c t)) ≡ w .slotAt (slotLineIn w (candidateIn w own c t))
           line = same .slot ∙ rw (same-place c)
 
-          held : metAt (slotLineIn v (ownSlot v c t)) (not (isSome (v .slotAt (slotLineIn v (ownSlot v c t))))) ≡ none
-              → cond (eqb (Option·getD (v .slotAt (slotLineIn v (ownSlot v c t))) 0) t) (answered (number (ownSlot v c t))) o
-              ≡ cond (eqb (Option·getD (w .slotAt (slotLineIn w (ownSlot w c t))) 0) t) (answered (number (ownSlot w c t))) p
+          held : metAt (slotLineIn v (candidateIn v own c t)) (not (isSome (v .slotAt (slotLineIn v (candidateIn v own c t))))) ≡ none
+              → cond (eqb (Option·getD (v .slotAt (slotLineIn v (candidateIn v own c t))) 0) t) (answered (number (candidateIn v own c t))) o
+              ≡ cond (eqb (Option·getD (w .slotAt (slotLineIn w (candidateIn w own c t))) 0) t) (answered (number (candidateIn w own c t))) p
           held passes =
-              let (u, reads) = some-of-isSome _ (not-false _ (false-of-metAt (slotLineIn v (ownSlot v c t)) _ passes)) in
+              let (u, reads) = some-of-isSome _ (not-false _ (false-of-metAt (slotLineIn v (candidateIn v own c t)) _ passes)) in
               rw (← line, ← same-slot c, reads) (go u reads (eqb u t) refl)
             where
-              go : (u : ℕ) → v .slotAt (slotLineIn v (ownSlot v c t)) ≡ some u → (b : Bool) → eqb u t ≡ b
-                  → cond (eqb u t) (answered (number (ownSlot v c t))) o ≡ cond (eqb u t) (answered (number (ownSlot v c t))) p
+              go : (u : ℕ) → v .slotAt (slotLineIn v (candidateIn v own c t)) ≡ some u → (b : Bool) → eqb u t ≡ b
+                  → cond (eqb u t) (answered (number (candidateIn v own c t))) o ≡ cond (eqb u t) (answered (number (candidateIn v own c t))) p
               go u reads true e = rw e
               go u reads false e = rw e (next u reads (eqb-false u t e))
 
       -- Where no check refuses the slots are looked at, unless the group is empty.
-      slots-agree : Pass (lookupChecks v (ownGroup v t))
-          → cond (eqb (startIn v (ownGroup v t)) (endIn v (ownGroup v t))) (answered unknown) (slotsOf v)
-          ≡ cond (eqb (startIn w (ownGroup w t)) (endIn w (ownGroup w t))) (answered unknown) (slotsOf w)
-      slots-agree passes = rw (← same-start, ← same-end) (go (eqb (startIn v (ownGroup v t)) (endIn v (ownGroup v t))) refl)
+      slots-agree : Pass (lookupChecks v own)
+          → cond (eqb (startIn v own) (endIn v own)) (answered unknown) (slotsOf v)
+          ≡ cond (eqb (startIn w own) (endIn w own)) (answered unknown) (slotsOf w)
+      slots-agree passes = rw (← start-agrees, ← end-agrees) (go (eqb (startIn v own) (endIn v own)) refl)
         where
-          go : (b : Bool) → eqb (startIn v (ownGroup v t)) (endIn v (ownGroup v t)) ≡ b
-              → cond (eqb (startIn v (ownGroup v t)) (endIn v (ownGroup v t))) (answered unknown) (slotsOf v)
-              ≡ cond (eqb (startIn v (ownGroup v t)) (endIn v (ownGroup v t))) (answered unknown) (slotsOf w)
+          go : (b : Bool) → eqb (startIn v own) (endIn v own) ≡ b
+              → cond (eqb (startIn v own) (endIn v own)) (answered unknown) (slotsOf v)
+              ≡ cond (eqb (startIn v own) (endIn v own)) (answered unknown) (slotsOf w)
           go true e = rw e
           go false e =
-              let filled = eqb-false (startIn v (ownGroup v t)) (endIn v (ownGroup v t)) e in
+              let filled = eqb-false (startIn v own) (endIn v own) e in
               rw e (slot-agrees 0 _ _ (read .first-slot wired passes filled)
               (λ u reads other. slot-agrees 1 _ _ (read .second-slot wired passes filled u reads other) (λ _ _ _. refl)))
 
   lookup-agrees : lookupInGroup v t (ownGroup v t) ≡ lookupInGroup w t (ownGroup w t)
-  unfolding lookupInGroup lookupChecks groupChecks
+  unfolding lookupInGroup lookupChecks
   lookup-agrees =
       inOrder-append (openingChecks v) _ _
       ∙ inOrder-agree (openingChecks v) (openingChecks w) _ _ (rw (← same-opening) (agree-same (openingChecks v) _ behind))
       ∙ sym (inOrder-append (openingChecks w) _ _)
+      ∙ ap (λ (groups : ℕ). lookupInGroup w t (groupOf groups t)) same-groups
     where
       behind : Pass (openingChecks v)
-          → inOrder (groupChecks v (ownGroup v t))
-          (cond (eqb (startIn v (ownGroup v t)) (endIn v (ownGroup v t))) (answered unknown) (slotsOf v))
-          ≡ inOrder (groupChecks w (ownGroup w t))
-          (cond (eqb (startIn w (ownGroup w t)) (endIn w (ownGroup w t))) (answered unknown) (slotsOf w))
-      behind opens = inOrder-agree (groupChecks v (ownGroup v t)) (groupChecks w (ownGroup w t)) _ _ (
-        cc (same-own opens, same-groups),
-        λ own.
-            let well = not-false _ (false-of-metAt (suc (ownGroup v t)) _ own) in (
-              cc (same-malformed opens well, same-groups),
-              λ next. (
-                cc (same-start opens, same-end opens well, same-count, same-groups),
-                λ fault. slots-agree opens well
-                    (pass-append (openingChecks v) (groupChecks v (ownGroup v t)) opens (own, (next, (fault, tt)))),
-              ),
-            ),
-      )
+          → inOrder (groupChecks v own) (cond (eqb (startIn v own) (endIn v own)) (answered unknown) (slotsOf v))
+          ≡ inOrder (groupChecks w own) (cond (eqb (startIn w own) (endIn w own)) (answered unknown) (slotsOf w))
+      behind opens = inOrder-agree (groupChecks v own) (groupChecks w own) _ _
+          (group-agrees v w own same-groups same-count (own-line opens) _ (next-line opens)
+          (λ well passes. slots-agree opens well (pass-append (openingChecks v) (groupChecks v own) opens passes)))
 
 -- "It depends on the image's length, line 0, those two group lines, those two slot lines and the tag, and on no other byte."
 pub lookup-depends : (p q : List ℕ) (t : ℕ) → length p ≡ length q → LinesRead (viewOf p) t (λ k. lineAt k p ≡ lineAt k q)

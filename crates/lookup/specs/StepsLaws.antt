@@ -21,23 +21,19 @@ use Rattle.image.specs.UnwiredLaws.{by-wired, lookup-unwired, lookup-wired}
 use Rattle.opening.specs.Opening.{openingOf, Opens}
 use Rattle.opening.specs.OpeningLaws.{opening-refused, opening-passes, opening-answered}
 use Rattle.lookup.specs.Steps.{endOf, slotsOf, slotsFrom, groupOutcome}
+use Rattle.lookup.specs.GroupLaws.{end-at-count, end-at-next, end-is, start-is, seed-is}
+use Rattle.lookup.specs.GroupLaws.{own-refused, next-refused, fault-refused, group-passes}
 
 module _ (image : List ℕ) where
   -- Where a group ends.
   pub end-of-last : {count groups : ℕ} → Opens image count groups → (g : ℕ) → suc g ≡ groups → endOf (viewOf image) g ≡ some count
-  unfolding endOf
-  end-of-last {count} {groups} opens g last =
-      let v = viewOf image in
-      let past : groupsIn v ≤ suc g = omega (arith, opens .groups-is) in
-      rw (le-ltb (suc g) (groupsIn v) past, opens .count-is)
+  end-of-last opens g last = rw (← opens .count-is) (end-at-count (viewOf image) g (omega (arith, opens .groups-is)))
 
   pub end-of-next : {count groups : ℕ} → Opens image count groups → (g : ℕ)
       → suc g < groups → (o : Option (ℕ × ℕ)) → groupLine (lineAt (suc (suc g)) image) ≡ o
       → endOf (viewOf image) g ≡ Option·map (λ h. h .0) o
-  unfolding endOf viewOf
-  end-of-next opens g lt o e =
-      let below : suc g < groupsIn (viewOf image) = omega (arith, opens .groups-is) in
-      rw (lt-ltb (suc g) (groupsIn (viewOf image)) below, e)
+  unfolding viewOf
+  end-of-next opens g lt o e = end-at-next (viewOf image) g (omega (arith, opens .groups-is)) e
 
   -- A slot looked at.
   module _ (groups t j : ℕ) (same : groupsIn (viewOf image) ≡ groups) (next : Outcome Found) where
@@ -87,68 +83,30 @@ module _ (image : List ℕ) where
   -- The group's lines, its fault, its slots.
   module _ (t g line : ℕ) (at : line ≡ suc g) where
     pub own-malformed : groupLine (lineAt line image) ≡ none → groupOutcome (viewOf image) t g ≡ refused 12 line
-    unfolding groupOutcome groupChecks inOrder metAt isSome viewOf
-    own-malformed e = rw (← at, e)
+    unfolding groupOutcome viewOf
+    own-malformed e = rw at (own-refused (viewOf image) g _ (rw at at e))
 
     module _ (start seed : ℕ) (own′ : groupLine (lineAt line image) ≡ some (start, seed)) where
-      own : groupLine (lineAt (suc g) image) ≡ some (start, seed)
+      own : viewOf image .groupAt (suc g) ≡ some (start, seed)
+      unfolding viewOf
       own = rw at at own′
 
-      start-is : startIn (viewOf image) g ≡ start
-      unfolding startIn viewOf
-      start-is = ap (λ (o : Option (ℕ × ℕ)). (Option·getD o (0, 0)) .0) own
-
-      seed-is : seedIn (viewOf image) g ≡ seed
-      unfolding seedIn viewOf
-      seed-is = ap (λ (o : Option (ℕ × ℕ)). (Option·getD o (0, 0)) .1) own
-
-      -- The second check, by where the group ends.
-      next-is : (o : Option ℕ) → endOf (viewOf image) g ≡ o
-          → (ltb (suc g) (groupsIn (viewOf image)) && not (isSome (viewOf image .groupAt (suc (suc g))))) ≡ not (isSome o)
-      unfolding endOf isSome
-      next-is o e = go (ltb (suc g) (groupsIn (viewOf image))) (viewOf image .groupAt (suc (suc g))) refl refl
-        where
-          v : View
-          v = viewOf image
-
-          go : (b : Bool) (p : Option (ℕ × ℕ)) → ltb (suc g) (groupsIn v) ≡ b → v .groupAt (suc (suc g)) ≡ p
-              → (ltb (suc g) (groupsIn v) && not (isSome (v .groupAt (suc (suc g))))) ≡ not (isSome o)
-          go true none f h = rw (f, h) (ap (λ (q : Option ℕ). not (isSome q)) (rw (f, h) at e))
-          go true (some p) f h = rw (f, h) (ap (λ (q : Option ℕ). not (isSome q)) (rw (f, h) at e))
-          go false p f h = rw f (ap (λ (q : Option ℕ). not (isSome q)) (rw f at e))
-
-      own-is : viewOf image .groupAt (suc g) ≡ some (start, seed)
-      unfolding viewOf
-      own-is = own
-
       pub next-malformed : endOf (viewOf image) g ≡ none → groupOutcome (viewOf image) t g ≡ refused 12 (line + 1)
-      unfolding groupOutcome groupChecks inOrder metAt isSome
-      next-malformed e = let after : line + 1 ≡ suc (suc g) = omega arith in rw (after, own-is, next-is none e)
+      unfolding groupOutcome
+      next-malformed e = let after : line + 1 ≡ suc (suc g) = omega arith in rw after (next-refused (viewOf image) g _ own e)
 
       module _ (end : ℕ) (ends : endOf (viewOf image) g ≡ some end) where
-        end-is : endIn (viewOf image) g ≡ end
-        unfolding endIn startIn endOf
-        end-is = go (ltb (suc g) (groupsIn (viewOf image))) (viewOf image .groupAt (suc (suc g))) refl refl
-          where
-            v : View
-            v = viewOf image
-
-            go : (b : Bool) (p : Option (ℕ × ℕ)) → ltb (suc g) (groupsIn v) ≡ b → v .groupAt (suc (suc g)) ≡ p → endIn v g ≡ end
-            go true none f h = let z = rw (f, h) at ends in cc
-            go true (some p) f h =
-                let z : some (p .0) ≡ some end = rw (f, h) at ends in rw f (ap (λ (o : Option (ℕ × ℕ)). (Option·getD o (0, 0)) .0) h ∙ cc)
-            go false p f h = let z : some (countIn v) ≡ some end = rw f at ends in rw f (cc)
-
         -- The group is faulty, ends past N, or its slots are looked at.
         pub group-faulty : (faulty g start end || ltb (countIn (viewOf image)) end) ≡ true → groupOutcome (viewOf image) t g ≡ refused 13 g
-        unfolding groupOutcome groupChecks inOrder metAt isSome
-        group-faulty e = rw (own-is, next-is (some end) ends, start-is, end-is, e)
+        unfolding groupOutcome
+        group-faulty e = fault-refused (viewOf image) g _ own ends e
 
         pub group-slots : faulty g start end ≡ false → end ≤ countIn (viewOf image)
             → groupOutcome (viewOf image) t g ≡ slotsOf (viewOf image) start end seed t
-        unfolding groupOutcome groupChecks inOrder metAt isSome
+        unfolding groupOutcome
         group-slots fair within =
-            rw (own-is, next-is (some end) ends, start-is, end-is, seed-is, fair, le-ltb (countIn (viewOf image)) end within)
+            group-passes (viewOf image) g _ own ends fair within
+            ∙ cc (start-is (viewOf image) g own, end-is (viewOf image) g ends, seed-is (viewOf image) g own)
 
   -- The opening, and what stands behind it: nothing for tag 0, and the group of any other.
   pub lookup-unopened : (t : ℕ) {reason place : ℕ} → openingOf image ≡ refused reason place → lookupOf image t ≡ refused reason place

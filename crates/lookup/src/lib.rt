@@ -48,7 +48,7 @@ pub fn lookup(image: &[u8], tag: u32) -> LookupAnswer
 }
 
 // The refusal of line k as malformed.
-fn malformed(k: usize) -> LookupAnswer
+pub fn malformed(k: usize) -> LookupAnswer
     ensures answer { λ r. ⌜ lookupOutcome r ≡ refused 12 k ⌝ }
 {
     LookupAnswer::Refused(Refusal {
@@ -58,7 +58,7 @@ fn malformed(k: usize) -> LookupAnswer
 }
 
 // The refusal of group g as faulty.
-fn faulty(g: usize) -> LookupAnswer
+pub fn faulty(g: usize) -> LookupAnswer
     ensures answer { λ r. ⌜ lookupOutcome r ≡ refused 13 g ⌝ }
 {
     LookupAnswer::Refused(Refusal {

@@ -1,3 +1,5 @@
+pub mod Opened
+pub mod OpenedLaws
 pub mod Opening
 pub mod OpeningLaws
 pub mod Answer

@@ -57,7 +57,7 @@ const SIZES: [u32; refusal::MEMBER_CELLS + 1] = [
 
 // The number of tags of a group. Read from a table, it is known to the compiler as a number of 32 bits, which it needs to hash several
 // tags at once.
-fn size_of(tags: &[u32]) -> u32
+pub fn size_of(tags: &[u32]) -> u32
     requires { ⌜ length (now tags) ≤ groupMax ⌝ }
     ensures answer { λ r. ⌜ r ≡ length (now (tags .entry)) ⌝ }
 {
@@ -65,7 +65,7 @@ fn size_of(tags: &[u32]) -> u32
 }
 
 // Lays out the candidate places of n tags under a seed, and answers the occupancy word.
-fn lay_out(tags: &[u32], n: u32, seed: u32, places: &mut [u32; places::PLACE_CELLS]) -> u32
+pub fn lay_out(tags: &[u32], n: u32, seed: u32, places: &mut [u32; places::PLACE_CELLS]) -> u32
     requires { ⌜ (length (now tags) ≤ groupMax) × (n ≡ length (now tags)) × (seed ≤ seedMax) × (length (now places) ≡ 2 * groupMax) ⌝ }
     ensures answer { λ r. ⌜ r ≡ occupancyOf (groupUnder (now (tags .entry)) seed) ⌝ }
     ensures cells { λ r. ⌜ now (places .exit) ≡ laidInto (groupUnder (now (tags .entry)) seed) (now (places .entry)) ⌝ }

@@ -6,15 +6,17 @@ use mathlib.Core.Option.{Option, none, some, Option·none-ne-some}
 use Prim.Native.Nat.{ℕ, suc, _+_, _*_, _%_, _≤_, _<_}
 use native.Mathlib.Omega.{arith}
 use lib.ListN.{length, getD, take, drop, length-take, length-drop}
-use lib.Seq.{take-suc, length-take-le}
+use lib.Seq.{take-suc, take-at, drop-at, take-add, take-take, drop-drop, length-take-le}
 use borrow.Author.Tests.{eq-eqb, eqb-true}
 use Rattle.lists.specs.BoolLaws.{some-of-cond}
 use Rattle.lists.specs.FirstLaws.{none-of-never}
 use Rattle.columns.specs.Columns.{leadingFrom, both}
 use Rattle.columns.specs.ColumnsLaws.{leadingBehind, leading-append}
+use Rattle.text.specs.Field.{field}
+use Rattle.text.specs.FieldLaws.{field-other-length}
 use Rattle.text.specs.Line.{lineLength, ended, bothFields, pairOf, tagOf}
 use Rattle.text.specs.LineLaws.{ended-short, ended-whole, both-only}
-use Rattle.text.proofs.Leading.{leading-below, field-digit, field-ends, part-field}
+use Rattle.text.proofs.Leading.{leading-below, field-digit, Ends, field-ends, part-field}
 
 -- A line that the text cuts off is malformed.
 cut-off : (columns : ℕ) (bytes : List ℕ) (at : ℕ) → length bytes < at + suc columns
@@ -32,6 +34,34 @@ module _ (bytes : List ℕ) (at : ℕ) (short : length bytes < at + lineLength) 
   pub tag-short : tagOf cut ≡ none
   unfolding tagOf ended
   tag-short = rw (ended-short 10 cut (cut-off 10 bytes at short))
+
+-- So are two fields of which it cuts the second off.
+second-none : (o : Option ℕ) → bothFields o none ≡ none
+unfolding bothFields
+second-none none = refl
+second-none (some a) = refl
+
+pub fields-short : (bytes : List ℕ) (at : ℕ) → length bytes < at + 10
+    → bothFields (field 5 (take 5 (drop at bytes))) (field 5 (take 5 (drop (at + 5) bytes))) ≡ none
+fields-short bytes at short =
+    let last = field-other-length 5 (take 5 (drop (at + 5) bytes)) (cut-off 4 bytes (at + 5) (omega arith)) in
+    rw last (second-none (field 5 (take 5 (drop at bytes))))
+
+-- Two fields that are there whole, read in their ten bytes.
+pub fields-whole : (bytes : List ℕ) (at : ℕ) → at + 10 ≤ length bytes
+    → bothFields (field 5 (take 5 (take 10 (drop at bytes)))) (field 5 (take 5 (drop 5 (take 10 (drop at bytes)))))
+    ≡ bothFields (field 5 (take 5 (drop at bytes))) (field 5 (take 5 (drop (at + 5) bytes)))
+fields-whole bytes at room =
+    let first = take 5 (drop at bytes) in
+    let second = take 5 (drop 5 (drop at bytes)) in
+    let long : length first ≡ 5 = length-take-le 5 (drop at bytes) (rw length-drop (omega arith)) in
+    rw (
+      take-add 5 5 (drop at bytes),
+      take-at first second 5 long,
+      drop-at first second 5 long,
+      take-take 5 5 (drop 5 (drop at bytes)) (omega arith),
+      drop-drop 5 at bytes,
+    )
 
 -- Both numbers are there, or not.
 both-is : (o p : Option ℕ) → both o p ≡ bothFields o p
@@ -68,6 +98,39 @@ module _ (line : List ℕ) {x : ℕ} (e : (x + 2608) % 65536 ≡ getD line 9 0 +
   pub no-ending : {y : ℕ} → x < 65536 → 10 ≤ x → Ending line y → ⊥
   no-ending h i end = omega (arith, end .digit, end .low, end .feed)
 
+module _ (line : List ℕ) (room : 10 ≤ length line) where
+  -- Two fields of five columns at the front of a text.
+  abbrev fields : Option (ℕ × ℕ)
+  fields = bothFields (field 5 (take 5 line)) (field 5 (take 5 (drop 5 line)))
+
+  pub fields-some : {m n x y : ℕ} → leadingFrom 0 (take 4 line) ≡ some m → leadingFrom 0 (take 4 (drop 5 line)) ≡ some n
+      → getD line 4 0 ≡ 48 + x → x < 10 → getD line 9 0 ≡ 48 + y → y < 10 → fields ≡ some (m * 10 + x, n * 10 + y)
+  unfolding bothFields
+  fields-some {m} {n} {x} {y} first second a h b l =
+      rw (
+        part-field 4 0 line (omega arith),
+        part-field 4 5 line (omega arith),
+        a,
+        b,
+        field-digit (take 4 line) m x first h,
+        field-digit (take 4 (drop 5 line)) n y second l,
+      )
+
+  fields-end : (a b : ℕ) → fields ≡ some (a, b)
+      → Ends (take 4 line) (getD line 4 0) a × Ends (take 4 (drop 5 line)) (getD line 9 0) b
+  fields-end a b e =
+      let (f, g) = both-only _ _ a b e in (
+        field-ends (take 4 line) (getD line 4 0) a (sym (part-field 4 0 line (omega arith)) ∙ f),
+        field-ends (take 4 (drop 5 line)) (getD line 9 0) b (sym (part-field 4 5 line (omega arith)) ∙ g),
+      )
+
+  pub fields-none : ((m n x y : ℕ) → leadingFrom 0 (take 4 line) ≡ some m → leadingFrom 0 (take 4 (drop 5 line)) ≡ some n
+      → x < 10 → getD line 4 0 ≡ 48 + x → y < 10 → getD line 9 0 ≡ 48 + y → ⊥)
+      → fields ≡ none
+  fields-none never = none-of-never fields (λ ab e.
+      let (first, second) = fields-end (ab .0) (ab .1) e in
+      never _ _ _ _ (first .leads) (second .leads) (omega arith) (first .digit) (omega arith) (second .digit))
+
 module _ (line : List ℕ) (whole : length line ≡ lineLength) where
   -- A whole line is ended where its line feed is there.
   ended-feed : getD line 10 0 ≡ 10 → ended line ≡ true
@@ -78,20 +141,12 @@ module _ (line : List ℕ) (whole : length line ≡ lineLength) where
   unfolding ended
   feed-ended e = eqb-true (getD line 10 0) 10 (sym (ended-whole 10 line whole) ∙ e)
 
-  -- Two fields.
+  -- Two fields and the line feed.
   pub pair-some : {m n x y : ℕ} → leadingFrom 0 (take 4 line) ≡ some m → leadingFrom 0 (take 4 (drop 5 line)) ≡ some n
       → getD line 4 0 ≡ 48 + x → x < 10 → Ending line y → pairOf line ≡ some (m * 10 + x, n * 10 + y)
-  unfolding pairOf bothFields
-  pair-some {m} {n} {x} {y} first second a h end =
-      rw (
-        ended-feed (end .feed),
-        part-field 4 0 line (omega arith),
-        part-field 4 5 line (omega arith),
-        a,
-        end .digit,
-        field-digit (take 4 line) m x first h,
-        field-digit (take 4 (drop 5 line)) n y second (end .low),
-      )
+  unfolding pairOf
+  pair-some first second a h end =
+      rw (ended-feed (end .feed)) (fields-some line (omega arith) first second a h (end .digit) (end .low))
 
   pub pair-none : ((m n x y : ℕ) → leadingFrom 0 (take 4 line) ≡ some m → leadingFrom 0 (take 4 (drop 5 line)) ≡ some n
       → x < 10 → getD line 4 0 ≡ 48 + x → Ending line y → ⊥)
@@ -99,9 +154,7 @@ module _ (line : List ℕ) (whole : length line ≡ lineLength) where
   unfolding pairOf
   pair-none never = none-of-never (pairOf line) (λ ab e.
       let (f, g) = some-of-cond (ended line) _ e in
-      let (a, b) = both-only _ _ (ab .0) (ab .1) g in
-      let first = field-ends (take 4 line) (getD line 4 0) (ab .0) (sym (part-field 4 0 line (omega arith)) ∙ a) in
-      let second = field-ends (take 4 (drop 5 line)) (getD line 9 0) (ab .1) (sym (part-field 4 5 line (omega arith)) ∙ b) in
+      let (first, second) = fields-end line (omega arith) (ab .0) (ab .1) g in
       never _ _ _ _ (first .leads) (second .leads) (omega arith) (first .digit)
       (record { digit = second .digit; low = omega arith; feed = feed-ended f }))
 

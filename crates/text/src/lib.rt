@@ -15,7 +15,7 @@ ghost use Rattle.refusal.specs.Answer.{firstMeaning};
 ghost use Rattle.columns.specs.Columns.{columnOf, leadingFrom};
 ghost use Rattle.text.specs.Figure.{figure};
 ghost use Rattle.text.specs.Field.{field};
-ghost use Rattle.text.specs.Line.{lineLength, pairLine, tagLine, pairOf, tagOf, within, imageHeader, groupLine, slotLine};
+ghost use Rattle.text.specs.Line.{lineLength, pairLine, tagLine, bothFields, pairOf, tagOf, within, imageHeader, groupLine, slotLine};
 ghost use Rattle.text.specs.Line.{listHeader, listLine};
 ghost use Rattle.text.specs.TagLines.{noTagFrom, passed, tagsStored};
 ghost use Rattle.text.specs.Answer.{fieldMeaning, pairMeaning, tagMeaning};
@@ -151,6 +151,26 @@ fn pair_in(line: &[u8]) -> Pair
     Pair::Numbers(m as u32 * 10 + first as u32, n as u32 * 10 + second as u32)
 }
 
+// Two fields of five columns, with nothing asked of what stands behind them.
+fn fields_in(line: &[u8]) -> Pair
+    requires { ⌜ length (now line) ≡ 10 ⌝ }
+    ensures answer { λ r. ⌜ pairMeaning r
+        ≡ bothFields (field 5 (take 5 (now (line .entry)))) (field 5 (take 5 (drop 5 (now (line .entry))))) ⌝ }
+{
+    let Fours::Numbers(m, n) = columns::two_fours(line) else {
+        return Pair::Malformed;
+    };
+    let first = std::num::wrapping_sub_u8(line[4], b'0');
+    if 10 <= first {
+        return Pair::Malformed;
+    }
+    let second = std::num::wrapping_sub_u8(line[9], b'0');
+    if 10 <= second {
+        return Pair::Malformed;
+    }
+    Pair::Numbers(m as u32 * 10 + first as u32, n as u32 * 10 + second as u32)
+}
+
 // The one tag of a whole line: the number in its ten columns, if it fits 32 bits.
 fn tag_in(line: &[u8]) -> Tag
     requires { ⌜ length (now line) ≡ lineLength ⌝ }
@@ -198,6 +218,21 @@ fn read_tag(bytes: &[u8], at: usize) -> Tag
     }
     let end = at + LINE_LENGTH;
     tag_in(&bytes[at..end])
+}
+
+// The two fields of five columns at a byte of the text, without a line feed behind them. Fields that the text cuts off are malformed.
+pub fn read_two_fields(bytes: &[u8], at: usize) -> Pair
+    ensures answer { λ r. ⌜ pairMeaning r ≡ bothFields
+        (field 5 (take 5 (drop at (now (bytes .entry))))) (field 5 (take 5 (drop (at + 5) (now (bytes .entry))))) ⌝ }
+{
+    if bytes.len() < 10 {
+        return Pair::Malformed;
+    }
+    if bytes.len() - 10 < at {
+        return Pair::Malformed;
+    }
+    let end = at + 10;
+    fields_in(&bytes[at..end])
 }
 
 // The first line from line `from` on, before line `end`, that is no tag's. The tags of the lines before it are stored, as many as

@@ -1,0 +1,3 @@
+pub mod LowestLaws
+pub mod Table
+pub mod TableLaws

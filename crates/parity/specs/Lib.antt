@@ -1,0 +1,4 @@
+pub mod OddLaws
+pub mod Parity
+pub mod ParityLaws
+pub mod Times

@@ -1,0 +1,4 @@
+pub mod WordLine
+pub mod WordLineLaws
+pub mod Answer
+pub mod Examples
