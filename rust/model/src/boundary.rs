@@ -1,9 +1,10 @@
-//! The answers of the six calls over the C boundary.
+//! The answers of the nine calls over the C boundary.
 //!
 //! "Each call answers one 64-bit number: the length, the tag's number or 0 for an accepted check;
 //! 4,294,967,295 for unknown; and for a refusal its number × 2^32 plus its place." Placing a group
 //! answers its seed, and leaves the choice word in a cell that it is lent. Planning answers B, and
-//! leaves the plan in 513 cells.
+//! leaves the plan in 513 cells. The three calls of the index without tags answer as building, checking
+//! and lookup do.
 
 use crate::building::build;
 use crate::checking::check;
@@ -12,6 +13,7 @@ use crate::placing::place_group;
 use crate::planning::{plan_list, Plan};
 use crate::printer::read_bounded_list;
 use crate::refusal::Refusal;
+use crate::tagless;
 use crate::writing::write_list;
 
 /// The answer that stands for unknown.
@@ -78,11 +80,38 @@ pub fn answer_check(image: &[u8]) -> u64 {
 
 /// The tag's number, at most 4,095, or the answer for unknown.
 pub fn answer_lookup(image: &[u8], tag: u32) -> u64 {
-    match lookup(image, tag) {
+    answer_of_found(lookup(image, tag))
+}
+
+fn answer_of_found(found: Result<Found, Refusal>) -> u64 {
+    match found {
         Ok(Found::Number(number)) => u64::from(number),
         Ok(Found::Unknown) => UNKNOWN,
         Err(refusal) => answer_of_refusal(refusal),
     }
+}
+
+/// The length of the image without tags. A list text is taken as in building.
+pub fn answer_tagless_build(text: &[u8], buffer: &mut [u8]) -> u64 {
+    let built = read_bounded_list(text)
+        .and_then(|list| tagless::build(&list.tags, list.groups, list.limit, buffer));
+    match built {
+        Ok(length) => length as u64,
+        Err(refusal) => answer_of_refusal(refusal),
+    }
+}
+
+/// 0 if checking accepts the image without tags.
+pub fn answer_tagless_check(image: &[u8]) -> u64 {
+    match tagless::check(image) {
+        Ok(()) => 0,
+        Err(refusal) => answer_of_refusal(refusal),
+    }
+}
+
+/// The tag's number, at most 4,095, or the answer for unknown.
+pub fn answer_tagless_lookup(image: &[u8], tag: u32) -> u64 {
+    answer_of_found(tagless::lookup(image, tag))
 }
 
 /// The seed, at most 65,535, and the choice word in the cell. "A refusal writes nothing": the cell

@@ -75,7 +75,7 @@ impl<'a> Image<'a> {
 }
 
 /// "Line 0: N in five columns, B in five", with "N is at most 4,096, B is 1 to 512".
-fn read_line_0(line: &[u8]) -> Option<(usize, usize)> {
+pub(crate) fn read_line_0(line: &[u8]) -> Option<(usize, usize)> {
     let (tags, groups) = read_two(line)?;
     let legal = tags as usize <= LARGEST_LIST && (1..=LARGEST_GROUP_COUNT).contains(&groups);
     legal.then_some((tags as usize, groups as usize))

@@ -1,12 +1,13 @@
 //! The model: document 01, "The two-choice tag index", in plain Rust, to be read beside the paper,
-//! with what document 02, §1 to §3, change in it: nobody has tag 0, a group may hold 32 tags, and
-//! building is planning and writing in turn. Where §2 has another number than the sentence that is
-//! quoted, it stands in square brackets.
+//! with what document 02, §1 to §3 and §5, change in it: nobody has tag 0, a group may hold 32 tags,
+//! building is planning and writing in turn, and there is an index without tags beside the other. Where
+//! §2 has another number than the sentence that is quoted, it stands in square brackets.
 //!
 //! It is written from the papers alone and shares no code with the proved crates, so that a
 //! program can run both and compare. Where the papers leave the method open, the model takes
-//! another one than the proved crates: connected parts decide whether a seed serves a group, and
-//! matching finds the least choice sequence. A module is one concept, in the paper's order.
+//! another one than the proved crates: connected parts decide whether a seed serves a group,
+//! matching finds the least choice sequence, and columns find the least word. A module is one
+//! concept, in the paper's order.
 
 #![forbid(unsafe_code)]
 
@@ -22,10 +23,12 @@ pub mod placing;
 pub mod planning;
 pub mod printer;
 pub mod refusal;
+pub mod tagless;
 pub mod writing;
 
 pub use boundary::{
-    answer_build, answer_check, answer_lookup, answer_place, answer_plan, answer_write,
+    answer_build, answer_check, answer_lookup, answer_place, answer_plan, answer_tagless_build,
+    answer_tagless_check, answer_tagless_lookup, answer_write,
 };
 pub use building::{build, image_of};
 pub use checking::check;

@@ -8,7 +8,7 @@ use crate::refusal::{refuse_at, Refusal};
 /// "So the answer is a number, unknown, or a refusal": what lookup finds unless it refuses.
 #[derive(Debug, Clone, Copy, PartialEq, Eq)]
 pub enum Found {
-    /// The tag's number, which is its slot.
+    /// The tag's number, which is its slot where there are slots.
     Number(u32),
     Unknown,
 }

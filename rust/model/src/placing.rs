@@ -62,7 +62,7 @@ pub fn first_is_unwired(tags: &[u32]) -> bool {
 }
 
 /// Both places of a tag in a group of n tags, that of choice 0 first. They may be equal.
-fn both_places(n: usize, seed: u32, tag: u32) -> [usize; 2] {
+pub(crate) fn both_places(n: usize, seed: u32, tag: u32) -> [usize; 2] {
     [0, 1].map(|choice| place_of(n as u32, seed, choice, tag) as usize)
 }
 

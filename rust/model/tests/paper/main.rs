@@ -1,5 +1,5 @@
-//! The model held against document 01 and document 02, §1 to §3: worked values, traps, refusals,
-//! edges, agreement, tag 0, groups of up to 32 tags, and planning and writing.
+//! The model held against document 01 and document 02, §1 to §3 and §5: worked values, traps, refusals,
+//! edges, agreement, tag 0, groups of up to 32 tags, planning and writing, and the index without tags.
 
 mod agreement;
 mod common;
@@ -10,6 +10,7 @@ mod lists;
 mod plans;
 mod printer_and_boundary;
 mod refusals;
+mod tagless_words;
 mod thirty_two;
 mod traps;
 mod unwired;
