@@ -10,6 +10,7 @@ mod lists;
 mod plans;
 mod printer_and_boundary;
 mod refusals;
+mod tagless_images;
 mod tagless_words;
 mod thirty_two;
 mod traps;
