@@ -1,5 +1,5 @@
 /* The C boundary of the two-choice tag index: building, by one call or by planning and writing,
- * checking, lookup and placing a group.
+ * checking, lookup and placing a group; and the index without tags: building, checking and lookup.
  *
  * The functions stand in libtag_index.a, for x86-64: `rt staticlib tag_index` writes it to
  * target/staticlib/.
@@ -38,7 +38,12 @@ extern "C" {
 #define TAG_INDEX_LINE 11u             /* bytes of a line, of a list text and of an image */
 #define TAG_INDEX_PLAN_CELLS 513u      /* cells of a plan: B, and a seed for each of 512 groups */
 
-/* Lookup's answer where the image does not have the tag. */
+/* The same of the index without tags. */
+#define TAG_INDEX_LONGEST_TAGLESS_IMAGE 10763u
+#define TAG_INDEX_TAGLESS_GROUP_LINE 21u
+
+/* Lookup's answer where the image does not have the tag; without tags, for tag 0 and where the tag's
+ * group is empty. */
 #define TAG_INDEX_UNKNOWN UINT64_C(4294967295)
 
 /* The numbers of the refusals, and what their place counts, from 0; it is 0 where none is said.
@@ -51,7 +56,8 @@ enum tag_index_reason {
     TAG_INDEX_TOO_MANY_TAGS = 5,             /* above 4,096 tags, above 32 from placing, or a text
                                               * above 65,527 bytes */
     TAG_INDEX_NOT_ASCENDING = 6,             /* index: this tag is not above the one before */
-    TAG_INDEX_NO_SEED = 7,                   /* group: no seed below L serves it; 0 from placing */
+    TAG_INDEX_NO_SEED = 7,                   /* group: no seed below L serves it; 0 from placing;
+                                              * without tags: none has a word for it */
     TAG_INDEX_GROUP_COUNT_OUT_OF_RANGE = 8,  /* B is not 1 to 512 */
     TAG_INDEX_BUFFER_TOO_SHORT = 9,          /* the buffer is shorter than the image */
     TAG_INDEX_GROUP_TOO_LARGE = 10,          /* group: it has more than 32 tags */
@@ -114,6 +120,34 @@ uint64_t tag_index_lookup(const uint8_t *image, size_t image_length, uint32_t ta
 uint64_t tag_index_place_group(const uint32_t *tags, size_t tags_length, uint32_t limit,
                                uint32_t *word);
 
+/* The index without tags. Its image has a word for each group in place of the tags: line 0 as in an
+ * image with tags, then B group lines of 21 bytes, whatever the number of tags. The listed tags get the
+ * numbers 0 to N - 1, each once. A TAG THAT WAS NOT LISTED GETS A NUMBER BELOW N TOO, unless its group
+ * is empty: the image cannot tell it from a listed one. */
+
+/* Builds the image without tags of a list text at the beginning of the buffer `image`: for each group
+ * the least seed below L under which some word gives its tags different places, and the least such
+ * word.
+ *
+ * Answers the image's length, 32 to 10,763, or a refusal: the text's, 8, 4, 6, 17, 9, 10 or 7. The
+ * bytes behind the image stay as they were; a refusal leaves all of them as they were. */
+uint64_t tag_index_tagless_build(const uint8_t *text, size_t text_length, uint8_t *image,
+                                 size_t image_length);
+
+/* Checks an image without tags of any origin: its length, every line and every group. Any seeds and
+ * words are accepted.
+ *
+ * Answers 0 if it is accepted, or refusal 11, 12 or 13. */
+uint64_t tag_index_tagless_check(const uint8_t *image, size_t image_length);
+
+/* Looks up a tag in an image without tags, checked or not.
+ *
+ * Answers a number, 0 to 4,095, of a listed tag its own; TAG_INDEX_UNKNOWN for tag 0 and for a tag whose
+ * group is empty; or refusal 11, 12 or 13 if line 0, the length or one of the two group lines that it
+ * reads is at fault. For tag 0 line 0 and the length alone are examined. In a checked image no refusal
+ * comes, and every number is below N. */
+uint64_t tag_index_tagless_lookup(const uint8_t *image, size_t image_length, uint32_t tag);
+
 /* Whether an answer is a refusal. */
 static inline int tag_index_refused(uint64_t answer) { return (answer >> 32) != 0; }
 
@@ -130,6 +164,12 @@ static inline uint32_t tag_index_refusal_place(uint64_t answer) {
 /* The length of the image of so many tags in so many groups, both in the ranges above. */
 static inline size_t tag_index_image_length(size_t groups, size_t count) {
     return TAG_INDEX_LINE * (1u + groups + count);
+}
+
+/* The length of the image without tags of so many groups, in the range above, for any number of
+ * tags. */
+static inline size_t tag_index_tagless_image_length(size_t groups) {
+    return TAG_INDEX_LINE + TAG_INDEX_TAGLESS_GROUP_LINE * groups;
 }
 
 #ifdef __cplusplus

@@ -7,6 +7,7 @@
 use std::ops::RangeInclusive;
 
 use crate::refusal::{Reason, Refusal};
+use crate::tagless::LONGEST_TAGLESS_IMAGE;
 use crate::{
     Placement, LARGEST_GROUP, LARGEST_GROUP_COUNT, LARGEST_LIMIT, LARGEST_LIST, LONGEST_IMAGE,
     LONGEST_TEXT, PLAN_CELLS,
@@ -22,6 +23,7 @@ const NO_PLACE: RangeInclusive<u32> = 0..=0;
 const GROUPS: RangeInclusive<u32> = 0..=LARGEST_GROUP_COUNT - 1;
 const SLOTS: RangeInclusive<u32> = 0..=LARGEST_LIST as u32 - 1;
 const LINES_OF_IMAGE: RangeInclusive<u32> = 0..=(LONGEST_IMAGE / 11) as u32 - 1;
+const LINES_OF_TAGLESS_IMAGE: RangeInclusive<u32> = 0..=LARGEST_GROUP_COUNT;
 const LINES_OF_TEXT: RangeInclusive<u32> = 0..=(LONGEST_TEXT / 11) as u32 - 1;
 
 /// The refusals that each operation has over the C boundary, in the order in which they come.
@@ -76,6 +78,24 @@ const PLACING: [Allowed; 5] = [
     (Reason::NotAscending, 1..=LARGEST_GROUP as u32 - 1),
     (Reason::UnwiredTag, NO_PLACE),
     (Reason::NoSeed, NO_PLACE),
+];
+
+const TAGLESS_BUILDING: [Allowed; 9] = [
+    (Reason::MalformedList, LINES_OF_TEXT),
+    (Reason::TooManyTags, NO_PLACE),
+    (Reason::GroupCountOutOfRange, NO_PLACE),
+    (Reason::LimitOutOfRange, NO_PLACE),
+    (Reason::NotAscending, 1..=LARGEST_LIST as u32 - 1),
+    (Reason::UnwiredTag, NO_PLACE),
+    (Reason::BufferTooShort, NO_PLACE),
+    (Reason::GroupTooLarge, GROUPS),
+    (Reason::NoSeed, GROUPS),
+];
+/// Checking an image without tags, and lookup in it.
+const TAGLESS_READING: [Allowed; 3] = [
+    (Reason::WrongLength, NO_PLACE),
+    (Reason::MalformedLine, LINES_OF_TAGLESS_IMAGE),
+    (Reason::FaultyGroup, GROUPS),
 ];
 
 /// Building's answer for a buffer of `room` bytes: the image's length, or the refusal.
@@ -181,6 +201,54 @@ pub(crate) fn placed(
         seed: answer as u32,
         word,
     })
+}
+
+/// The answer of building without tags for a buffer of `room` bytes: the image's length, or the refusal.
+pub(crate) fn tagless_built(answer: u64, room: usize) -> Result<usize, Refusal> {
+    if let Some(refusal) = refusal(answer, &TAGLESS_BUILDING) {
+        return Err(refusal);
+    }
+    let longest = room.min(LONGEST_TAGLESS_IMAGE) as u64;
+    // Line 0 and at least one group line, each of them 21 bytes.
+    if !(32..=longest).contains(&answer) || !(answer - 11).is_multiple_of(21) {
+        not_allowed("building without tags", answer);
+    }
+    Ok(answer as usize)
+}
+
+/// The answer of checking an image without tags: 0, or the refusal.
+pub(crate) fn tagless_checked(answer: u64) -> Result<(), Refusal> {
+    if let Some(refusal) = refusal(answer, &TAGLESS_READING) {
+        return Err(refusal);
+    }
+    if answer != 0 {
+        not_allowed("checking without tags", answer);
+    }
+    Ok(())
+}
+
+/// The answer of lookup in an image without tags: a number, nothing for unknown, or the refusal.
+pub(crate) fn tagless_looked_up(answer: u64) -> Result<Option<u32>, Refusal> {
+    if let Some(refusal) = refusal(answer, &TAGLESS_READING) {
+        return Err(refusal);
+    }
+    if answer == UNKNOWN {
+        return Ok(None);
+    }
+    if answer >= LARGEST_LIST as u64 {
+        not_allowed("lookup without tags", answer);
+    }
+    Ok(Some(answer as u32))
+}
+
+/// The answer of lookup in a checked image without tags that says `count` tags: a number below that, or
+/// nothing for unknown. A checked image has no refusal.
+pub(crate) fn tagless_found(answer: u64, count: usize) -> Option<u32> {
+    match tagless_looked_up(answer) {
+        Ok(None) => None,
+        Ok(Some(number)) if (number as usize) < count => Some(number),
+        _ => not_allowed("lookup in a checked image without tags", answer),
+    }
 }
 
 /// The refusal that an answer stands for, if it is one of those allowed at a place that it can name.
@@ -289,7 +357,7 @@ mod tests {
     fn every_refusal_of_every_operation_is_taken_at_its_places_and_no_other() {
         for &reason in Reason::ALL {
             for place in [
-                0, 1, 31, 32, 511, 512, 4_095, 4_096, 4_608, 4_609, 5_956, 5_957,
+                0, 1, 31, 32, 511, 512, 513, 4_095, 4_096, 4_608, 4_609, 5_956, 5_957,
             ] {
                 let answer = refused(reason.number().into(), place.into());
                 let refusal = Refusal { reason, place };
@@ -303,6 +371,9 @@ mod tests {
                 assert_eq!(has(&CHECKING), checked_is(answer, refusal));
                 assert_eq!(has(&LOOKUP), looked_up_is(answer, refusal));
                 assert_eq!(has(&PLACING), placed_is(answer, refusal));
+                assert_eq!(has(&TAGLESS_BUILDING), tagless_built_is(answer, refusal));
+                assert_eq!(has(&TAGLESS_READING), tagless_checked_is(answer, refusal));
+                assert_eq!(has(&TAGLESS_READING), tagless_looked_up_is(answer, refusal));
             }
         }
     }
@@ -381,6 +452,67 @@ mod tests {
 
     fn placed_is(answer: u64, refusal: Refusal) -> bool {
         catch_unwind(|| placed(answer, 0, 32, 9)).is_ok_and(|taken| taken == Err(refusal))
+    }
+
+    fn tagless_built_is(answer: u64, refusal: Refusal) -> bool {
+        let taken = catch_unwind(|| tagless_built(answer, LONGEST_TAGLESS_IMAGE));
+        taken.is_ok_and(|taken| taken == Err(refusal))
+    }
+
+    fn tagless_checked_is(answer: u64, refusal: Refusal) -> bool {
+        catch_unwind(|| tagless_checked(answer)).is_ok_and(|taken| taken == Err(refusal))
+    }
+
+    fn tagless_looked_up_is(answer: u64, refusal: Refusal) -> bool {
+        catch_unwind(|| tagless_looked_up(answer)).is_ok_and(|taken| taken == Err(refusal))
+    }
+
+    #[test]
+    fn answers_without_tags_at_their_bounds_are_taken() {
+        for (length, room) in [(32, 32), (32, 99), (53, 53), (10_763, 10_763)] {
+            assert_eq!(tagless_built(length, room), Ok(length as usize));
+        }
+        assert_eq!(tagless_checked(0), Ok(()));
+        assert_eq!(tagless_looked_up(0), Ok(Some(0)));
+        assert_eq!(tagless_looked_up(4_095), Ok(Some(4_095)));
+        assert_eq!(tagless_looked_up(UNKNOWN), Ok(None));
+        assert_eq!(tagless_found(2, 3), Some(2));
+        assert_eq!(tagless_found(UNKNOWN, 0), None);
+    }
+
+    #[test]
+    fn an_answer_without_tags_that_the_papers_do_not_allow_panics() {
+        // No length: too small, not 11 and 21 for each group, longer than the buffer or than any image.
+        for (answer, room) in [
+            (0, 99),
+            (11, 99),
+            (31, 99),
+            (33, 99),
+            (42, 99),
+            (53, 52),
+            (10_784, 60_000),
+        ] {
+            let taken = catch_unwind(|| tagless_built(answer, room));
+            assert!(taken.is_err(), "{answer}");
+        }
+        for answer in [1, UNKNOWN, refused(14, 0), refused(15, 0), refused(17, 0)] {
+            assert!(
+                catch_unwind(|| tagless_checked(answer)).is_err(),
+                "{answer}"
+            );
+        }
+        for answer in [4_096, UNKNOWN - 1, refused(14, 0), refused(12, 513)] {
+            assert!(
+                catch_unwind(|| tagless_looked_up(answer)).is_err(),
+                "{answer}"
+            );
+        }
+        for (answer, count) in [(3, 3), (0, 0), (refused(11, 0), 3), (refused(13, 1), 3)] {
+            assert!(
+                catch_unwind(|| tagless_found(answer, count)).is_err(),
+                "{answer}"
+            );
+        }
     }
 
     #[test]

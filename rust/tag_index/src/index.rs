@@ -140,16 +140,19 @@ impl<'a> Index<'a> {
     }
 }
 
-/// N and B as line 0 of a checked image states them, in five columns each; they fit its length.
-fn stated(image: &[u8]) -> (usize, u32) {
+/// N and B as line 0 of a checked image states them, in five columns each.
+pub(crate) fn read_line_0(image: &[u8]) -> Option<(usize, u32)> {
     let field = |from: usize| {
         let columns = std::str::from_utf8(image.get(from..from + 5)?).ok()?;
         columns.trim_start().parse::<u32>().ok()
     };
-    match (field(0), field(5)) {
-        (Some(count), Some(groups)) if image_length(groups, count as usize) == image.len() => {
-            (count as usize, groups)
-        }
+    Some((field(0)? as usize, field(5)?))
+}
+
+/// N and B as line 0 of a checked image states them; they fit its length.
+fn stated(image: &[u8]) -> (usize, u32) {
+    match read_line_0(image) {
+        Some((count, groups)) if image_length(groups, count) == image.len() => (count, groups),
         _ => panic!(
             "checking accepted an image whose length is not what line 0 states: {}",
             answer::WRONG_LIBRARY

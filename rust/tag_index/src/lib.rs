@@ -1,5 +1,6 @@
 //! The two-choice tag index for a Rust service: building an image from a list, at once or by a plan and
 //! the writing of the image under it, checking it, looking up tags in it, and placing a group by itself.
+//! And the [index without tags](tagless), for a box that has no store for the tags.
 //!
 //! The work is done by the proved functions behind the C boundary; this crate lends them slices and
 //! takes their answers apart. Every function takes any bytes and any numbers, and its answer depends
@@ -21,6 +22,9 @@
 //! let mut later = [0; tag_index::LONGEST_IMAGE];
 //! let length = tag_index::write(&text, &plan, &mut later)?;
 //! assert_eq!(&later[..length], image);
+//! // Without the tags the image is shorter, and gives every listed tag a number of its own.
+//! let short = tag_index::tagless::image_of(2, 9, &[1, 2, 3])?;
+//! assert_eq!(tag_index::TaglessIndex::new(short)?.lookup(3), Some(2));
 //! # Ok::<(), Box<dyn std::error::Error>>(())
 //! ```
 //!
@@ -39,6 +43,7 @@ mod list;
 mod planning;
 pub mod raw;
 mod refusal;
+pub mod tagless;
 
 use std::error::Error;
 use std::fmt;
@@ -49,6 +54,7 @@ pub use list::{list_text, TooWide, LARGEST_FIELD};
 pub use planning::{image_under, plan, plan_list, write, write_list, Plan, PLAN_BYTES};
 pub use raw::PLAN_CELLS;
 pub use refusal::{PlaceKind, Reason, Refusal};
+pub use tagless::TaglessIndex;
 
 /// The most tags of a list, N.
 pub const LARGEST_LIST: usize = 4_096;

@@ -1,4 +1,4 @@
-//! The six functions of the C boundary, and a safe function over each that answers its 64-bit
+//! The nine functions of the C boundary, and a safe function over each that answers its 64-bit
 //! number as it is. All `unsafe` of this crate stands here.
 //!
 //! Each function takes any bytes, numbers and lengths, and reads and writes only inside the ranges
@@ -39,6 +39,14 @@ mod c {
             limit: u32,
             word: *mut u32,
         ) -> u64;
+        pub fn tag_index_tagless_build(
+            text: *const u8,
+            text_length: usize,
+            image: *mut u8,
+            image_length: usize,
+        ) -> u64;
+        pub fn tag_index_tagless_check(image: *const u8, image_length: usize) -> u64;
+        pub fn tag_index_tagless_lookup(image: *const u8, image_length: usize, tag: u32) -> u64;
     }
 }
 
@@ -142,4 +150,49 @@ pub fn place_group(tags: &[u32], limit: u32, word: &mut [u32; 1]) -> u64 {
     // SAFETY: pointer and length come from a slice, and the other pointer from a reference to one
     // cell; both live through the call. `word` is borrowed for writing, so `tags` does not overlap it.
     unsafe { c::tag_index_place_group(tags.as_ptr(), tags.len(), limit, word.as_mut_ptr()) }
+}
+
+/// The answer of building without tags: the image's length, or refusal number × 2^32 + place.
+///
+/// ```
+/// let mut image = [0; 32];
+/// assert_eq!(tag_index::raw::tagless_build(b"    1    1\n", &mut image), 32);
+/// assert_eq!(&image, b"    0    1\n    0    0         0\n");
+/// assert_eq!(tag_index::raw::tagless_build(b"    1    1\n", &mut image[..31]), 9 << 32);
+/// ```
+pub fn tagless_build(text: &[u8], image: &mut [u8]) -> u64 {
+    // SAFETY: both pointers and lengths come from slices that live through the call; `image` is
+    // borrowed for writing, so `text` does not overlap it.
+    unsafe {
+        c::tag_index_tagless_build(text.as_ptr(), text.len(), image.as_mut_ptr(), image.len())
+    }
+}
+
+/// The answer of checking an image without tags: 0 if accepted, or refusal number × 2^32 + place.
+///
+/// ```
+/// use tag_index::raw::tagless_check;
+/// assert_eq!(tagless_check(b"    0    1\n    0    0         0\n"), 0);
+/// assert_eq!(tagless_check(b"    0    1\n    1    0         0\n"), 13 << 32);
+/// ```
+pub fn tagless_check(image: &[u8]) -> u64 {
+    // SAFETY: pointer and length come from a slice that lives through the call, and the function
+    // only reads.
+    unsafe { c::tag_index_tagless_check(image.as_ptr(), image.len()) }
+}
+
+/// The answer of lookup in an image without tags: a number, 4,294,967,295 for unknown, or refusal
+/// number × 2^32 + place.
+///
+/// ```
+/// use tag_index::raw::tagless_lookup;
+/// let image = b"    1    1\n    0    0         0\n";
+/// assert_eq!(tagless_lookup(image, 7), 0);
+/// assert_eq!(tagless_lookup(image, 0), tag_index::UNKNOWN);
+/// assert_eq!(tagless_lookup(&image[..10], 7), 11 << 32);
+/// ```
+pub fn tagless_lookup(image: &[u8], tag: u32) -> u64 {
+    // SAFETY: pointer and length come from a slice that lives through the call, and the function
+    // only reads.
+    unsafe { c::tag_index_tagless_lookup(image.as_ptr(), image.len(), tag) }
 }

@@ -26,7 +26,8 @@ pub enum Reason {
     TooManyTags = 5,
     /// 6: a tag is not above the one before it.
     NotAscending = 6,
-    /// 7: no seed below L serves a group; from placing, which has one group, at place 0.
+    /// 7: no seed below L serves a group; from placing, which has one group, at place 0. From building
+    /// without tags: no seed below L has a word that gives the group's tags different places.
     NoSeed = 7,
     /// 8: the group count B is not 1 to 512.
     GroupCountOutOfRange = 8,
