@@ -222,7 +222,7 @@ fn put(tally: &mut Tally, image: &[u8], index: usize, line: &[u8], tags: &[u32])
 }
 
 /// Neighbours of both numbers, and the ends of all ranges.
-fn other_pairs(first: u32, second: u32) -> Vec<(u64, u64)> {
+pub fn other_pairs(first: u32, second: u32) -> Vec<(u64, u64)> {
     let around = |value: u32| {
         let ends = [
             0, 1, 2, 32, 33, 512, 513, 4_096, 4_097, 65_535, 65_536, 99_999,

@@ -220,7 +220,7 @@ pub fn full(random: &mut Random) -> Case {
 }
 
 /// Consecutive tags, 24 to 31 for each group: they spread over the groups almost evenly.
-fn close_numbered(random: &mut Random) -> Case {
+pub fn close_numbered(random: &mut Random) -> Case {
     let groups = random.within(1, 8) as u32;
     let count = groups * random.within(24, 31) as u32;
     let first = random.tag().min(u32::MAX - count);

@@ -1,5 +1,5 @@
 //! Runs cases against the model of the papers: the proved functions over the C boundary, answers
-//! and every lent cell and byte, the binding's `Index` and `Plan`, and the index printer.
+//! and every lent cell and byte, the binding's `Index`, `Plan` and `TaglessIndex`, and the index printer.
 //!
 //!     compare                  a million answers and more, under a minute
 //!     compare --long           more than ten million, and many more lists
@@ -18,6 +18,7 @@ mod plans;
 mod printing;
 mod soak;
 mod stored;
+mod tagless;
 mod tally;
 mod texts;
 mod widths;
@@ -30,7 +31,7 @@ use std::time::{Duration, Instant};
 
 use random::Random;
 
-use tally::Tally;
+use tally::{Least, Tally};
 
 /// How many cases a run has.
 pub struct Size {
@@ -59,9 +60,10 @@ pub struct Size {
     /// Rounds of all shapes of groups, and of random groups, of each size.
     shapes: usize,
     groups: usize,
-    /// Fewer answers than this are a fault of the run, and fewer groups of 25 to 32 tags.
-    least: u64,
-    least_large: usize,
+    /// For the index without tags: rounds of lists of many groups, and of groups of each size and kind.
+    many_groups: usize,
+    words: usize,
+    least: Least,
 }
 
 const SMALL: Size = Size {
@@ -81,8 +83,13 @@ const SMALL: Size = Size {
     printed: 0,
     shapes: 1,
     groups: 1,
-    least: 1_000,
-    least_large: 100,
+    many_groups: 1,
+    words: 1,
+    least: Least {
+        answers: 1_000,
+        large: 100,
+        words: 1_000,
+    },
 };
 
 const USUAL: Size = Size {
@@ -102,8 +109,13 @@ const USUAL: Size = Size {
     printed: 12,
     shapes: 4,
     groups: 40,
-    least: 1_000_000,
-    least_large: 1_000,
+    many_groups: 40,
+    words: 24,
+    least: Least {
+        answers: 1_000_000,
+        large: 1_000,
+        words: 100_000,
+    },
 };
 
 const LONG: Size = Size {
@@ -123,8 +135,13 @@ const LONG: Size = Size {
     printed: 100,
     shapes: 40,
     groups: 400,
-    least: 10_000_000,
-    least_large: 10_000,
+    many_groups: 400,
+    words: 240,
+    least: Least {
+        answers: 10_000_000,
+        large: 10_000,
+        words: 1_000_000,
+    },
 };
 
 enum Task {
@@ -229,18 +246,19 @@ fn compare(options: &Options) -> bool {
     images::compare(&mut tally, &mut random, size);
     groups::compare(&mut tally, &mut random, size);
     widths::compare(&mut tally, &mut random);
+    tagless::compare(&mut tally, &mut random, size);
     if let Some(printer) = &options.printer {
         printing::compare(&mut tally, &mut random, size, printer);
     }
-    let complete = tally.report(size.least_large);
+    let complete = tally.report(&size.least);
     let compared = tally.compared();
     println!(
         "compare: {compared} answers, no difference; seed {}, {:.1} s",
         options.seed,
         begun.elapsed().as_secs_f64()
     );
-    if compared < size.least {
-        println!("compare: fewer than {} answers", size.least);
+    if compared < size.least.answers {
+        println!("compare: fewer than {} answers", size.least.answers);
     }
-    complete && compared >= size.least
+    complete && compared >= size.least.answers
 }

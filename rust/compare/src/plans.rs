@@ -412,7 +412,7 @@ fn few_tags(tally: &mut Tally, random: &mut Random) {
 }
 
 /// All sets of these refusals; with 5, which takes a list of more than 4,096 tags, only small ones.
-fn sets(order: &[u32]) -> Vec<Vec<u32>> {
+pub fn sets(order: &[u32]) -> Vec<Vec<u32>> {
     (0..1u32 << order.len())
         .map(|set| {
             let chosen = (0..order.len()).filter(|&at| set >> at & 1 == 1);
@@ -447,7 +447,7 @@ fn base(random: &mut Random) -> (Case, Cells, usize, usize) {
 }
 
 /// The tags with what makes these refusals due: `large` is the group that has 33 tags where 10 is.
-fn faulty_tags(random: &mut Random, case: &Case, due: &[u32], large: usize) -> Vec<u32> {
+pub fn faulty_tags(random: &mut Random, case: &Case, due: &[u32], large: usize) -> Vec<u32> {
     let mut tags = case.tags.clone();
     if due.contains(&10) {
         let count = LARGEST_GROUP + 1;
@@ -473,7 +473,7 @@ fn faulty_tags(random: &mut Random, case: &Case, due: &[u32], large: usize) -> V
 }
 
 /// The text, with one line malformed where 16 is due.
-fn faulty_text(random: &mut Random, case: &Case, due: &[u32]) -> Vec<u8> {
+pub fn faulty_text(random: &mut Random, case: &Case, due: &[u32]) -> Vec<u8> {
     let mut text = case.text();
     if due.contains(&16) {
         let line = random.below(text.len() / 11);

@@ -1,11 +1,16 @@
 //! One case on both sides: calls the library and the model, compares, and counts.
 
+mod words;
+
 use std::collections::{BTreeMap, BTreeSet};
 use std::process;
 
 use model::boundary::Cells;
 use model::placing::LARGEST_GROUP;
-use tag_index::{raw, Index, Plan, Reason, Refusal, UNKNOWN};
+use tag_index::{raw, Index, Plan, Reason, Refusal, TaglessIndex, UNKNOWN};
+
+use crate::lists::Case;
+use words::Words;
 
 /// Bytes behind the buffer that building or writing is lent, which must stay as they are.
 const GUARD: usize = 32;
@@ -13,7 +18,7 @@ const GUARD: usize = 32;
 /// Cells before and behind the plan that planning is lent, which must stay as they are.
 const GUARD_CELLS: usize = 4;
 
-/// The six calls over the C boundary, and the printer's run.
+/// The nine calls over the C boundary, and the printer's run.
 #[derive(Clone, Copy, PartialEq, Eq, PartialOrd, Ord)]
 pub enum Operation {
     Placing,
@@ -22,17 +27,23 @@ pub enum Operation {
     Building,
     Checking,
     Lookup,
+    TaglessBuilding,
+    TaglessChecking,
+    TaglessLookup,
     Printing,
 }
 
 impl Operation {
-    pub const ALL: [Operation; 7] = [
+    pub const ALL: [Operation; 10] = [
         Operation::Placing,
         Operation::Planning,
         Operation::Writing,
         Operation::Building,
         Operation::Checking,
         Operation::Lookup,
+        Operation::TaglessBuilding,
+        Operation::TaglessChecking,
+        Operation::TaglessLookup,
         Operation::Printing,
     ];
 
@@ -44,6 +55,9 @@ impl Operation {
             Operation::Building => "building",
             Operation::Checking => "checking",
             Operation::Lookup => "lookup",
+            Operation::TaglessBuilding => "building without tags",
+            Operation::TaglessChecking => "checking without tags",
+            Operation::TaglessLookup => "lookup without tags",
             Operation::Printing => "printing",
         }
     }
@@ -54,9 +68,11 @@ impl Operation {
             Operation::Placing => &[4, 5, 6, 7, 17],
             Operation::Planning => &[4, 5, 6, 7, 8, 10, 16, 17],
             Operation::Writing => &[2, 5, 6, 8, 9, 10, 16, 17, 18],
-            Operation::Building => &[4, 5, 6, 7, 8, 9, 10, 16, 17],
+            Operation::Building | Operation::TaglessBuilding => &[4, 5, 6, 7, 8, 9, 10, 16, 17],
             Operation::Checking => &[11, 12, 13, 14, 15, 17],
-            Operation::Lookup => &[11, 12, 13],
+            Operation::Lookup | Operation::TaglessChecking | Operation::TaglessLookup => {
+                &[11, 12, 13]
+            }
             // The printer's buffer holds every image.
             Operation::Printing => &[4, 5, 6, 7, 8, 10, 16, 17],
         }
@@ -69,6 +85,7 @@ impl Operation {
             Operation::Planning => &[16, 5, 8, 4, 6, 17, 10, 7],
             Operation::Writing => &[16, 5, 8, 2, 6, 17, 9, 10, 18],
             Operation::Building => &[16, 5, 8, 4, 6, 17, 10, 7, 9],
+            Operation::TaglessBuilding => &[16, 5, 8, 4, 6, 17, 9, 10, 7],
             _ => &[],
         }
     }
@@ -88,11 +105,16 @@ impl Operation {
             Operation::Placing => "seed",
             Operation::Planning => "plan",
             Operation::Writing => "length",
-            Operation::Building => "length",
-            Operation::Checking => "accepted",
-            Operation::Lookup => "number",
+            Operation::Building | Operation::TaglessBuilding => "length",
+            Operation::Checking | Operation::TaglessChecking => "accepted",
+            Operation::Lookup | Operation::TaglessLookup => "number",
             Operation::Printing => "image",
         }
+    }
+
+    /// Whether unknown is one of its answers.
+    fn has_unknown(self) -> bool {
+        matches!(self, Operation::Lookup | Operation::TaglessLookup)
     }
 }
 
@@ -175,8 +197,8 @@ impl Placed {
     }
 }
 
-/// The binding's `Index`: images taken, images refused, lookups that answered a number or unknown.
-/// They go through the same C functions, so they do not count as answers of these.
+/// The binding's `Index` or `TaglessIndex`: images taken, images refused, lookups that answered a number
+/// or unknown. They go through the same C functions, so they do not count as answers of these.
 #[derive(Default)]
 struct Indexes {
     taken: u64,
@@ -205,16 +227,65 @@ struct Unwired {
     refused: u64,
 }
 
+impl Unwired {
+    /// Counts one lookup; `checked` is what checking answers for the image.
+    fn add(&mut self, answer: u64, checked: u64) {
+        match answer {
+            UNKNOWN => self.unknown += 1,
+            _ => self.refused += 1,
+        }
+        self.unknown_at_fault += u64::from(answer == UNKNOWN && checked != 0);
+    }
+
+    /// Prints the counts, and says whether each came.
+    fn report(&self, of: &str) -> bool {
+        let Unwired {
+            unknown,
+            unknown_at_fault,
+            refused,
+        } = self;
+        println!("            of tag 0{of}, lookups: {unknown} unknown, {unknown_at_fault} of them in images at fault, {refused} refused");
+        *unknown_at_fault > 0 && *refused > 0
+    }
+}
+
+impl Indexes {
+    /// Prints the counts, and says whether each came.
+    fn report(&self, name: &str) -> bool {
+        let Indexes {
+            taken,
+            refused,
+            lookups,
+        } = self;
+        println!("            of the binding's {name}: {taken} images taken, {refused} refused, {lookups} lookups");
+        *taken > 0 && *refused > 0 && *lookups > 0
+    }
+}
+
+/// Fewer than these are a fault of the run.
+pub struct Least {
+    /// Answers.
+    pub answers: u64,
+    /// Groups of 25 to 32 tags that placing found a seed for.
+    pub large: usize,
+    /// Groups of the index without tags.
+    pub words: usize,
+}
+
 pub struct Tally {
     kind: &'static str,
     kinds: BTreeMap<(Operation, &'static str), u64>,
-    answers: [Answers; 7],
+    answers: [Answers; 10],
     placed: Placed,
     plans: Plans,
     /// Cases with several refusals due at once, by the first two of them in the order written.
     pairs: BTreeMap<(Operation, u32, u32), u64>,
     unwired: Unwired,
     indexes: Indexes,
+    /// The same of the index without tags, and its groups.
+    tagless_unwired: Unwired,
+    tagless_indexes: Indexes,
+    words: Words,
     /// Lends each call memory of just the right size, so that a memory checker sees a byte too far.
     exact: bool,
 }
@@ -230,6 +301,9 @@ impl Tally {
             pairs: BTreeMap::new(),
             unwired: Unwired::default(),
             indexes: Indexes::default(),
+            tagless_unwired: Unwired::default(),
+            tagless_indexes: Indexes::default(),
+            words: Words::default(),
             exact,
         }
     }
@@ -281,21 +355,46 @@ impl Tally {
 
     /// Builds from a text into a buffer of `room` bytes, and answers what both sides answered.
     pub fn build(&mut self, text: &[u8], room: usize) -> u64 {
-        self.fill(
+        let (answer, _) = self.fill(
             Operation::Building,
             text,
             room,
             String::new,
             raw::build,
             model::answer_build,
-        )
+        );
+        answer
+    }
+
+    /// Builds an image without tags from a text into a buffer of `room` bytes, and answers what both
+    /// sides answered and the image, if there is one.
+    pub fn tagless_build(&mut self, text: &[u8], room: usize) -> (u64, Vec<u8>) {
+        let (answer, buffer) = self.fill(
+            Operation::TaglessBuilding,
+            text,
+            room,
+            String::new,
+            raw::tagless_build,
+            model::answer_tagless_build,
+        );
+        let length = match answer >> 32 {
+            0 => answer as usize,
+            _ => 0,
+        };
+        (answer, buffer[..length].to_vec())
+    }
+
+    /// Counts the groups of a list whose image without tags is this, or that was refused with 7 as its
+    /// only group.
+    pub fn words(&mut self, case: &Case, answer: u64, image: &[u8]) {
+        self.words.add(case, answer, image);
     }
 
     /// Writes the tags of a text with a plan into a buffer of `room` bytes, and answers what both sides
     /// answered.
     pub fn write(&mut self, text: &[u8], plan: &Cells, room: usize) -> u64 {
         let lent = Box::new(*plan);
-        let answer = self.fill(
+        let (answer, _) = self.fill(
             Operation::Writing,
             text,
             room,
@@ -328,7 +427,8 @@ impl Tally {
         answer
     }
 
-    /// Calls both sides with a buffer of `room` bytes, and compares the answers and every byte.
+    /// Calls both sides with a buffer of `room` bytes, and compares the answers and every byte; the answer
+    /// and the buffer.
     fn fill(
         &mut self,
         operation: Operation,
@@ -337,7 +437,7 @@ impl Tally {
         with: impl Fn() -> String,
         library: impl Fn(&[u8], &mut [u8]) -> u64,
         model: impl Fn(&[u8], &mut [u8]) -> u64,
-    ) -> u64 {
+    ) -> (u64, Box<[u8]>) {
         let guard = if self.exact { 0 } else { GUARD };
         let mut ours = patterned(room + guard);
         let mut theirs = ours.clone();
@@ -359,7 +459,7 @@ impl Tally {
             self.differs(&case, text, answer, expected, &bytes);
         }
         self.count(operation, answer);
-        answer
+        (answer, ours)
     }
 
     /// Plans from a text, lending cells that hold `before`, and answers what both sides answered and
@@ -454,42 +554,132 @@ impl Tally {
 
     /// Checks an image on both sides, and answers what both answered.
     pub fn check(&mut self, image: &[u8]) -> u64 {
-        let answer = if self.exact {
-            raw::check(&Box::<[u8]>::from(image))
-        } else {
-            raw::check(image)
-        };
-        let expected = model::answer_check(image);
-        if answer != expected {
-            self.differs("checking", image, answer, expected, "");
-        }
-        self.count(Operation::Checking, answer);
-        answer
+        self.read(
+            Operation::Checking,
+            "",
+            image,
+            raw::check,
+            model::answer_check,
+        )
     }
 
     /// Looks up a tag in an image on both sides, and answers what both answered.
     pub fn lookup(&mut self, image: &[u8], tag: u32) -> u64 {
-        let answer = if self.exact {
-            raw::lookup(&Box::<[u8]>::from(image), tag)
-        } else {
-            raw::lookup(image, tag)
-        };
-        let expected = model::answer_lookup(image, tag);
-        if answer != expected {
-            let case = format!("lookup of {tag}");
-            self.differs(&case, image, answer, expected, "");
-        }
-        self.count(Operation::Lookup, answer);
+        let answer = self.read(
+            Operation::Lookup,
+            &format!(" of {tag}"),
+            image,
+            |image| raw::lookup(image, tag),
+            |image| model::answer_lookup(image, tag),
+        );
         if tag == 0 {
-            let unwired = &mut self.unwired;
-            match answer {
-                UNKNOWN => unwired.unknown += 1,
-                _ => unwired.refused += 1,
-            }
-            let fault = model::answer_check(image) >> 32;
-            unwired.unknown_at_fault += u64::from(answer == UNKNOWN && fault != 0);
+            self.unwired.add(answer, model::answer_check(image));
         }
         answer
+    }
+
+    /// Checks an image without tags on both sides, and answers what both answered.
+    pub fn tagless_check(&mut self, image: &[u8]) -> u64 {
+        self.read(
+            Operation::TaglessChecking,
+            "",
+            image,
+            raw::tagless_check,
+            model::answer_tagless_check,
+        )
+    }
+
+    /// Looks up a tag in an image without tags on both sides, and answers what both answered.
+    pub fn tagless_lookup(&mut self, image: &[u8], tag: u32) -> u64 {
+        let answer = self.read(
+            Operation::TaglessLookup,
+            &format!(" of {tag}"),
+            image,
+            |image| raw::tagless_lookup(image, tag),
+            |image| model::answer_tagless_lookup(image, tag),
+        );
+        if tag == 0 {
+            let checked = model::answer_tagless_check(image);
+            self.tagless_unwired.add(answer, checked);
+        }
+        answer
+    }
+
+    /// Calls both sides with an image, and compares the answers.
+    fn read(
+        &mut self,
+        operation: Operation,
+        of: &str,
+        image: &[u8],
+        library: impl Fn(&[u8]) -> u64,
+        model: impl Fn(&[u8]) -> u64,
+    ) -> u64 {
+        let answer = if self.exact {
+            library(&Box::<[u8]>::from(image))
+        } else {
+            library(image)
+        };
+        let expected = model(image);
+        if answer != expected {
+            let case = format!("{}{of}", operation.name());
+            self.differs(&case, image, answer, expected, "");
+        }
+        self.count(operation, answer);
+        answer
+    }
+
+    /// Takes an image as a `TaglessIndex`: it is one where checking without tags accepted, its lookups
+    /// answer what lookup did, and every number is below N. `checked` and `found` are what both sides
+    /// answered.
+    pub fn tagless_index(&mut self, image: &[u8], checked: u64, found: &[(u32, u64)]) {
+        let taken = if self.exact {
+            TaglessIndex::new(Box::<[u8]>::from(image).into_vec())
+        } else {
+            TaglessIndex::new(image)
+        };
+        let index = match taken {
+            Ok(index) => index,
+            Err(refusal) => {
+                let answer = answer_of(refusal);
+                if answer != checked {
+                    self.differs("taking an index without tags", image, answer, checked, "");
+                }
+                self.tagless_indexes.refused += 1;
+                return;
+            }
+        };
+        if checked != 0 {
+            self.differs("taking an index without tags", image, 0, checked, "");
+        }
+        let stated = model::line::read_two(&image[..11]);
+        if stated != Some((index.len() as u32, index.groups())) || index.as_bytes() != image {
+            let kind = self.kind;
+            differs(&format!(
+                "an index without tags ({kind}) has another N, B or image than it was given\n{}",
+                shown(image)
+            ));
+        }
+        for &(tag, expected) in found {
+            let answer = index.lookup(tag).map_or(UNKNOWN, u64::from);
+            if answer != expected || (answer != UNKNOWN && answer >= index.len() as u64) {
+                let case = format!("lookup of {tag} in an index without tags");
+                self.differs(&case, image, answer, expected, "");
+            }
+        }
+        self.tagless_indexes.taken += 1;
+        self.tagless_indexes.lookups += found.len() as u64;
+    }
+
+    /// Says that the listed tags have the numbers 0 to N - 1 in an image without tags, each once, and
+    /// counts strangers: tags that are not listed have a number below N, or none in an empty group.
+    pub fn numbered(&mut self, case: &Case, image: &[u8], found: &[(u32, u64)]) {
+        let kind = self.kind;
+        if let Err(fault) = self.words.numbered(case, found) {
+            differs(&format!(
+                "lookup without tags ({kind}): both sides agree, and {fault}\n{}",
+                shown(image)
+            ));
+        }
     }
 
     /// Takes an image as an `Index`: it is one where checking accepted, and its lookups answer what
@@ -549,7 +739,7 @@ impl Tally {
         *self.kinds.entry((operation, self.kind)).or_insert(0) += 1;
         let answers = &mut self.answers[operation as usize];
         match (operation, answer >> 32) {
-            (Operation::Lookup, 0) if answer == UNKNOWN => answers.unknown += 1,
+            (operation, 0) if operation.has_unknown() && answer == UNKNOWN => answers.unknown += 1,
             (_, 0) => answers.success += 1,
             // Both sides agree, and the model has no other numbers.
             (_, number) => {
@@ -571,7 +761,12 @@ impl Tally {
         println!("            of planning: {cleared} refused plans cleared that held something else; {in_turn} lists planned, written and built in turn");
         println!("            of writing: {empty_group} images with a seed other than 0 for an empty group, {high_behind} with a number above 65535 behind the last group");
         let mut complete = cleared > 0 && in_turn > 0 && empty_group > 0 && high_behind > 0;
-        for operation in [Operation::Planning, Operation::Writing, Operation::Building] {
+        for operation in [
+            Operation::Planning,
+            Operation::Writing,
+            Operation::Building,
+            Operation::TaglessBuilding,
+        ] {
             let order = operation.order();
             let pairs = order.len() * (order.len() - 1) / 2;
             let counts: Vec<u64> = self
@@ -599,9 +794,9 @@ impl Tally {
     }
 
     /// Prints the counts, and says whether everything that must have come has come: every answer,
-    /// every refusal that names a place at more than one, and the others at place 0 only; and so many
-    /// groups of 25 to 32 tags.
-    pub fn report(&self, least_large: usize) -> bool {
+    /// every refusal that names a place at more than one, and the others at place 0 only; and as many
+    /// groups as there must be at least.
+    pub fn report(&self, least: &Least) -> bool {
         println!("cases of each kind");
         for ((operation, kind), count) in &self.kinds {
             println!("{count:>10}  {}, {kind}", operation.name());
@@ -618,7 +813,7 @@ impl Tally {
                 complete &= count > 0 && enough;
             };
             line(answers.success, operation.success(), true);
-            if operation == Operation::Lookup {
+            if operation.has_unknown() {
                 line(answers.unknown, "unknown", true);
             }
             for &number in operation.refusals() {
@@ -632,21 +827,11 @@ impl Tally {
                 }
             }
         }
-        complete &= self.placed.report(least_large) && self.report_plans();
-        let Unwired {
-            unknown,
-            unknown_at_fault,
-            refused,
-        } = self.unwired;
-        println!("            of tag 0, lookups: {unknown} unknown, {unknown_at_fault} of them in images at fault, {refused} refused");
-        complete &= unknown_at_fault > 0 && refused > 0;
-        let Indexes {
-            taken,
-            refused,
-            lookups,
-        } = self.indexes;
-        println!("            of the binding's Index: {taken} images taken, {refused} refused, {lookups} lookups");
-        complete &= taken > 0 && refused > 0 && lookups > 0;
+        complete &= self.placed.report(least.large) && self.report_plans();
+        complete &= self.unwired.report("") & self.indexes.report("Index");
+        complete &= self.words.report(least.words);
+        complete &= self.tagless_unwired.report(" without tags");
+        complete &= self.tagless_indexes.report("TaglessIndex");
         println!(
             "            refusals 1 and 3 belong to place of one tag, which is not called over the C \
              boundary; --stored has them"
