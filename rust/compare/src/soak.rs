@@ -1,10 +1,11 @@
-//! One process that places groups, plans, writes, rebuilds and looks up for a given time: every answer
-//! must be the model's, and the process must not grow.
+//! One process that places groups, plans, writes, rebuilds and looks up for a given time, with tags and
+//! without: every answer must be the model's, and the process must not grow.
 
 use std::fs;
 use std::time::{Duration, Instant};
 
 use model::boundary::Cells;
+use model::tagless::tagless_length;
 use random::Random;
 use tag_index::raw;
 
@@ -32,6 +33,16 @@ struct Expected {
     found: Vec<(u32, u64)>,
     /// One byte of the image changed, and what the model says then.
     damage: Option<Damage>,
+    tagless: Tagless,
+}
+
+/// The same list without tags, and what the model says of it.
+struct Tagless {
+    built: u64,
+    buffer: Vec<u8>,
+    checked: u64,
+    found: Vec<(u32, u64)>,
+    damage: Option<Damage>,
 }
 
 struct Damage {
@@ -55,7 +66,10 @@ pub fn run(seed: u64, time: Duration) -> bool {
     let mut random = Random::new(seed);
     let expected = expected(&mut random);
     let groups = groups(&mut random);
-    let mut buffer = vec![0; expected.iter().map(|one| one.room).max().unwrap_or(0)];
+    let rooms = expected
+        .iter()
+        .map(|one| one.room.max(one.tagless.buffer.len()));
+    let mut buffer = vec![0; rooms.max().unwrap_or(0)];
     let mut answers = 0;
     // From here on this side takes no memory: what grows is the library's.
     for _ in 0..WARM_UP {
@@ -105,9 +119,7 @@ fn expected(random: &mut Random) -> Vec<Expected> {
                 .map(|&tag| (tag, model::answer_lookup(&buffer, tag)))
                 .collect();
             let damage = (built >> 32 == 0).then(|| {
-                let (at, byte) = (random.below(room), random.next_u64() as u8);
-                let mut changed = buffer.clone();
-                changed[at] = byte;
+                let (at, byte, changed) = damaged(random, &buffer);
                 let tag = tags[random.below(tags.len())];
                 Damage {
                     at,
@@ -118,6 +130,7 @@ fn expected(random: &mut Random) -> Vec<Expected> {
             });
             Expected {
                 checked: model::answer_check(&buffer),
+                tagless: tagless(random, &text, case.groups, &tags),
                 text,
                 room,
                 built,
@@ -131,7 +144,43 @@ fn expected(random: &mut Random) -> Vec<Expected> {
         .collect()
 }
 
-/// Rebuilds every list once, plans and writes it, and asks for all its tags; the number of answers.
+/// One byte of an image changed: where, to what, and the image then.
+fn damaged(random: &mut Random, image: &[u8]) -> (usize, u8, Vec<u8>) {
+    let (at, byte) = (random.below(image.len()), random.next_u64() as u8);
+    let mut changed = image.to_vec();
+    changed[at] = byte;
+    (at, byte, changed)
+}
+
+/// What the model says of a list without tags.
+fn tagless(random: &mut Random, text: &[u8], groups: u32, tags: &[u32]) -> Tagless {
+    let mut buffer = vec![128; tagless_length(groups as usize)];
+    let built = model::answer_tagless_build(text, &mut buffer);
+    let found = tags
+        .iter()
+        .map(|&tag| (tag, model::answer_tagless_lookup(&buffer, tag)))
+        .collect();
+    let damage = (built >> 32 == 0).then(|| {
+        let (at, byte, changed) = damaged(random, &buffer);
+        let tag = tags[random.below(tags.len())];
+        Damage {
+            at,
+            byte,
+            checked: model::answer_tagless_check(&changed),
+            found: (tag, model::answer_tagless_lookup(&changed, tag)),
+        }
+    });
+    Tagless {
+        built,
+        checked: model::answer_tagless_check(&buffer),
+        buffer,
+        found,
+        damage,
+    }
+}
+
+/// Rebuilds every list once, plans and writes it, and asks for all its tags, with tags and without; the
+/// number of answers.
 fn round(expected: &[Expected], buffer: &mut [u8]) -> u64 {
     let mut answers = 0;
     for (index, one) in expected.iter().enumerate() {
@@ -182,6 +231,48 @@ fn round(expected: &[Expected], buffer: &mut [u8]) -> u64 {
             let (tag, found) = damage.found;
             hold(raw::lookup(image, tag), found, "lookup in a damaged image");
         }
+        answers += round_without_tags(index, one, buffer);
+    }
+    answers
+}
+
+/// Builds one list without tags, and asks for all its tags; the number of answers.
+fn round_without_tags(index: usize, one: &Expected, buffer: &mut [u8]) -> u64 {
+    let Expected { text, tagless, .. } = one;
+    let mut answers = 0;
+    let mut hold = |answer: u64, model: u64, operation: &str| {
+        answers += 1;
+        if answer != model {
+            differs(&format!(
+                "soak, {operation} without tags of list {index}: {answer} instead of {model}"
+            ));
+        }
+    };
+    let image = &mut buffer[..tagless.buffer.len()];
+    image.fill(128);
+    hold(raw::tagless_build(text, image), tagless.built, "building");
+    if image != tagless.buffer {
+        differs(&format!(
+            "soak, building without tags of list {index}: other bytes in the buffer"
+        ));
+    }
+    hold(raw::tagless_check(image), tagless.checked, "checking");
+    for &(tag, found) in &tagless.found {
+        hold(raw::tagless_lookup(image, tag), found, "lookup");
+    }
+    if let Some(damage) = &tagless.damage {
+        image[damage.at] = damage.byte;
+        hold(
+            raw::tagless_check(image),
+            damage.checked,
+            "checking a damaged image",
+        );
+        let (tag, found) = damage.found;
+        hold(
+            raw::tagless_lookup(image, tag),
+            found,
+            "lookup in a damaged image",
+        );
     }
     answers
 }
