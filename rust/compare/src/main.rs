@@ -4,6 +4,7 @@
 //!     compare                  a million answers and more, under a minute
 //!     compare --long           more than ten million, and many more lists
 //!     compare --small          few cases, in memory of just the right size: for a memory checker
+//!     compare --tagless        the cases of the index without tags alone
 //!     compare --stored         the stored outputs of the program crates, printed again from the model
 //!     compare --print PROGRAM  what the model writes for the cases of a program crate
 //!     compare --soak SECONDS   all calls again and again in one process, whose memory must not grow
@@ -146,6 +147,7 @@ const LONG: Size = Size {
 
 enum Task {
     Compare,
+    Tagless,
     Stored,
     Print(String),
     Soak(Duration),
@@ -187,6 +189,7 @@ fn options() -> Result<Options, String> {
                 options.exact = true;
                 options.printer = None;
             }
+            "--tagless" => options.task = Task::Tagless,
             "--stored" => options.task = Task::Stored,
             "--print" => options.task = Task::Print(value()?),
             "--soak" => options.task = Task::Soak(Duration::from_secs(number(value()?)?)),
@@ -209,6 +212,7 @@ fn main() -> ExitCode {
     };
     let passed = match &options.task {
         Task::Compare => compare(&options),
+        Task::Tagless => compare_tagless(&options),
         Task::Stored => stored::compare(&root().join("crates")),
         Task::Print(program) => print(program),
         Task::Soak(time) => soak::run(options.seed, *time),
@@ -228,6 +232,15 @@ fn print(program: &str) -> bool {
             false
         }
     }
+}
+
+/// The index without tags alone. The counts are not held against what a whole run must have.
+fn compare_tagless(options: &Options) -> bool {
+    let mut tally = Tally::new(options.exact);
+    tagless::compare(&mut tally, &mut Random::new(options.seed), &options.size);
+    let compared = tally.compared();
+    println!("compare: {compared} answers of the index without tags, no difference");
+    true
 }
 
 fn compare(options: &Options) -> bool {
