@@ -12,10 +12,25 @@ use tag_index::{LONGEST_IMAGE, PLAN_CELLS};
 /// Lookups in a repetition.
 const LOOKUPS: usize = 1_000;
 
-const OPERATIONS: [&str; 7] = ["build", "plan", "write", "check", "hits", "misses", PLACE];
+const OPERATIONS: [&str; 11] = [
+    "build",
+    "plan",
+    "write",
+    "check",
+    "hits",
+    "misses",
+    PLACE,
+    "tagless_build",
+    "tagless_check",
+    "tagless_hits",
+    "tagless_strangers",
+];
 
 /// The operation that takes groups and no list.
 const PLACE: &str = "place";
+
+/// What the operations of the index without tags begin with.
+const TAGLESS: &str = "tagless_";
 
 /// Prints the names of the cases and of the versions.
 pub fn print_cases() {
@@ -39,6 +54,7 @@ fn cases_of(operation: &str) -> Vec<Case> {
             .chain(cases::unserved())
             .collect(),
         "plan" | "write" => cases::planned(),
+        _ if operation.starts_with(TAGLESS) => cases::planned(),
         _ => cases::built(),
     }
 }
@@ -108,8 +124,18 @@ fn repeat(operation: &str, case: &Case, version: Version, repetitions: u32) {
                 black_box((version.write)(black_box(text), black_box(&plan), buffer));
             }
         }
+        "tagless_build" => {
+            for _ in 0..repetitions {
+                let buffer = black_box(&mut buffer);
+                black_box((version.tagless_build)(black_box(text), buffer));
+            }
+        }
         _ => {
-            let length = (PLAIN.build)(text, &mut buffer);
+            let build = match operation.starts_with(TAGLESS) {
+                true => PLAIN.tagless_build,
+                false => PLAIN.build,
+            };
+            let length = build(text, &mut buffer);
             assert_eq!(length >> 32, 0, "{} is not built", case.title);
             repeat_on_image(
                 operation,
@@ -125,16 +151,20 @@ fn repeat(operation: &str, case: &Case, version: Version, repetitions: u32) {
 fn repeat_on_image(operation: &str, case: &Case, image: &[u8], version: Version, repetitions: u32) {
     let mut random = Random::new(3);
     let mut queries = match operation {
-        "misses" => case.absent(&mut random),
+        "misses" | "tagless_strangers" => case.absent(&mut random),
         _ => case.shuffled(&mut random),
     };
     queries.truncate(LOOKUPS);
+    let (check, lookup) = match operation.starts_with(TAGLESS) {
+        true => (version.tagless_check, version.tagless_lookup),
+        false => (version.check, version.lookup),
+    };
     for _ in 0..repetitions {
-        if operation == "check" {
-            black_box((version.check)(black_box(image)));
+        if operation.ends_with("check") {
+            black_box(check(black_box(image)));
         } else {
             for &tag in &queries {
-                black_box((version.lookup)(black_box(image), tag));
+                black_box(lookup(black_box(image), tag));
             }
         }
     }

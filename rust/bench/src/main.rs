@@ -2,6 +2,7 @@
 //!
 //!     bench                                   all tables; it runs the repository's target/bin/printer
 //!     bench --printer PATH                    the same with another printer
+//!     bench --tagless                         the tables of the index without tags alone
 //!     bench --plots DIR                       the growth tables, and DIR/growth-*.svg
 //!     bench --count CASE VERSION REPETITIONS  one case, for counting instructions; `--count` alone names the cases
 //!     bench --print                           the plain version as an index printer
@@ -12,6 +13,7 @@ mod growth;
 mod plain;
 mod plot;
 mod tables;
+mod tagless;
 mod timing;
 mod versions;
 
@@ -35,6 +37,7 @@ fn main() -> ExitCode {
             tables::print(printer);
             growth::print();
         }
+        ["--tagless"] => tagless::print(),
         ["--print"] => {
             if let Err(error) = print_index() {
                 eprintln!("bench: {error}");
@@ -55,7 +58,7 @@ fn main() -> ExitCode {
             }
         }
         _ => {
-            eprintln!("usage: bench [--printer PATH | --plots DIR | --count [CASE VERSION REPETITIONS] | --print]");
+            eprintln!("usage: bench [--printer PATH | --tagless | --plots DIR | --count [CASE VERSION REPETITIONS] | --print]");
             return ExitCode::from(2);
         }
     }

@@ -2,6 +2,7 @@
 //! time, with its results asserted.
 
 use crate::cases::{self, Case, Groups, LIMIT};
+use crate::tagless;
 use crate::timing::{measure, median, print as print_samples, time, Sample, Timed, REPETITIONS};
 use crate::versions::{Version, BOTH};
 use random::Random;
@@ -14,15 +15,15 @@ use std::time::{Duration, Instant};
 use tag_index::{LONGEST_IMAGE, PLAN_CELLS};
 
 /// What stands in a buffer before a build or a writing.
-const CLEARED: u8 = b'.';
+pub const CLEARED: u8 = b'.';
 
 /// What stands in every cell of a plan before a planning.
 const NO_SEED: u32 = u32::MAX;
 
 /// A table's title and its samples, the proved version's and the plain one's first.
-struct Row {
-    title: String,
-    samples: Vec<Sample>,
+pub struct Row {
+    pub title: String,
+    pub samples: Vec<Sample>,
 }
 
 pub fn print(printer: &Path) {
@@ -33,6 +34,7 @@ pub fn print(printer: &Path) {
     println!("  plain          plain Rust on the same text or tags, rust/bench/src/plain.rs; it builds in one call");
     println!("  hash map       std HashMap<u32, u32> of the parsed list");
     println!("  sorted slice   pairs of the parsed list, by binary search");
+    println!("  with tags      the proved library on the image with tags of the same list, beside the index without tags");
     println!("Answers, plans and images are asserted equal, byte for byte, to the model's: after every build, planning and writing, and after every pass of checks, lookups or placings, outside the times.");
     println!("Buffers are filled with '.' before every build and writing, cells with {NO_SEED} before every planning, outside the times; L = {LIMIT} in all cases.");
 
@@ -54,10 +56,11 @@ pub fn print(printer: &Path) {
         let misses = case.absent(&mut random);
         rows.push(lookup(case, "misses", &misses));
     }
+    let without_tags = tagless::rows(&planned, &mut random);
 
     println!("\nSummary: medians, and the median of the ratios");
     println!("  {:<76}{:>10}{:>11}  ratio", "", "proved", "plain");
-    for row in rows {
+    for row in rows.iter().chain(&without_tags) {
         let [proved, plain] = [&row.samples[0], &row.samples[1]];
         println!(
             "  {:<76}{:>10}{:>11}  {:.2}",
@@ -67,9 +70,11 @@ pub fn print(printer: &Path) {
             median(&proved.ratios(plain))
         );
     }
+    tagless::print_beside(&without_tags);
+    tagless::print_sizes(&built);
 }
 
-fn row(title: String, samples: Vec<Sample>) -> Row {
+pub fn row(title: String, samples: Vec<Sample>) -> Row {
     print_samples(&title, &samples);
     Row { title, samples }
 }
@@ -81,7 +86,7 @@ fn expected(case: &Case) -> (u64, Vec<u8>) {
     (answer, buffer)
 }
 
-fn image_of(case: &Case) -> Vec<u8> {
+pub fn image_of(case: &Case) -> Vec<u8> {
     let (answer, buffer) = expected(case);
     assert_eq!(answer >> 32, 0, "{} is not built", case.title);
     buffer[..answer as usize].to_vec()
@@ -94,7 +99,7 @@ fn pairs_of(case: &Case, image: &[u8]) -> Vec<(u32, u32)> {
 }
 
 /// The time of so many builds.
-fn time_builds(
+pub fn time_builds(
     version: Version,
     text: &[u8],
     answer: u64,
@@ -107,7 +112,7 @@ fn time_builds(
 }
 
 /// The time of so many runs that leave this image in a buffer and answer this number.
-fn time_images(
+pub fn time_images(
     version: Version,
     answer: u64,
     expected: &[u8],
@@ -399,7 +404,7 @@ fn check(case: &Case) -> Row {
 }
 
 /// The time of so many passes over the queries.
-fn time_lookups(
+pub fn time_lookups(
     queries: &[u32],
     expected: &[u64],
     iterations: u32,

@@ -12,6 +12,9 @@ pub struct Version {
     pub check: fn(&[u8]) -> u64,
     pub lookup: fn(&[u8], u32) -> u64,
     pub place: fn(&[u32], u32, &mut [u32; 1]) -> u64,
+    pub tagless_build: fn(&[u8], &mut [u8]) -> u64,
+    pub tagless_check: fn(&[u8]) -> u64,
+    pub tagless_lookup: fn(&[u8], u32) -> u64,
 }
 
 /// The library that is proved, over its C boundary.
@@ -23,6 +26,9 @@ pub const PROVED: Version = Version {
     check: raw::check,
     lookup: raw::lookup,
     place: raw::place_group,
+    tagless_build: raw::tagless_build,
+    tagless_check: raw::tagless_check,
+    tagless_lookup: raw::tagless_lookup,
 };
 
 /// Plain Rust. Its building is one call, in which each group's seed and choices are found together.
@@ -34,6 +40,9 @@ pub const PLAIN: Version = Version {
     check: plain::check,
     lookup: plain::lookup,
     place: plain::place_group,
+    tagless_build: plain::tagless::build,
+    tagless_check: plain::tagless::check,
+    tagless_lookup: plain::tagless::lookup,
 };
 
 pub const BOTH: [Version; 2] = [PROVED, PLAIN];

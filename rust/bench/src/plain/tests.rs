@@ -1,7 +1,12 @@
 //! The plain version held against the model: every operation, on whole and damaged texts.
 
-use super::{build, check, lookup, place_group, plan, print, write, LARGEST_GROUP, PLAN_CELLS};
-use model::{answer_build, answer_check, answer_lookup, answer_plan, answer_write, list_text};
+use super::{
+    build, check, lookup, place_group, plan, print, tagless, write, LARGEST_GROUP, PLAN_CELLS,
+};
+use model::{
+    answer_build, answer_check, answer_lookup, answer_plan, answer_tagless_build,
+    answer_tagless_check, answer_tagless_lookup, answer_write, list_text,
+};
 use random::Random;
 
 /// Builds with both versions in a buffer of `room` bytes; answers the image.
@@ -238,5 +243,127 @@ fn damaged_texts() {
             tags.push(0);
             checked_and_looked_up(&image, &tags);
         }
+    }
+}
+
+/// Builds without tags with both versions in a buffer of `room` bytes; answers the image.
+fn built_without_tags(text: &[u8], room: usize) -> Option<Vec<u8>> {
+    let (mut plain, mut stated) = (vec![b'.'; room], vec![b'.'; room]);
+    let answer = tagless::build(text, &mut plain);
+    assert_eq!(
+        answer,
+        answer_tagless_build(text, &mut stated),
+        "{}",
+        String::from_utf8_lossy(text)
+    );
+    assert_eq!(plain, stated);
+    (answer >> 32 == 0).then(|| plain[..answer as usize].to_vec())
+}
+
+fn checked_and_looked_up_without_tags(image: &[u8], tags: &[u32]) {
+    assert_eq!(tagless::check(image), answer_tagless_check(image));
+    for &tag in tags {
+        assert_eq!(
+            tagless::lookup(image, tag),
+            answer_tagless_lookup(image, tag)
+        );
+    }
+}
+
+#[test]
+fn lists_without_tags() {
+    let mut random = Random::new(6);
+    for round in 0..600 {
+        let groups = [1, 1, 2, 3, 8, 17, 64, 511, 512][random.below(9)];
+        let limit = [1, 2, 9, 99, 65_536][random.below(5)];
+        let most = (13 * groups as usize).min(200);
+        let count = random.below(most + 1);
+        let step = 1 << random.below(20);
+        let tags = match round % 3 {
+            0 => random.multiples(count, step),
+            1 => (round..round + count as u32).collect(),
+            _ => random.tags(count),
+        };
+        let text = list_text(groups, limit, &tags);
+        let length = 11 + 21 * groups as usize;
+        built_without_tags(&text, length - 1);
+        if let Some(image) = built_without_tags(&text, length + random.below(3)) {
+            let mut queries = tags;
+            queries.extend([0, u32::MAX, random.tag(), random.tag()]);
+            checked_and_looked_up_without_tags(&image, &queries);
+        }
+    }
+}
+
+#[test]
+fn groups_of_every_size_without_tags() {
+    let mut random = Random::new(7);
+    for count in 0..=LARGEST_GROUP + 1 {
+        for limit in [3, 2_000] {
+            let stride = 1 << random.below(27);
+            let multiples = (1..=count as u32).map(|step| step * stride);
+            for tags in [random.tags(count), multiples.collect()] {
+                let text = list_text(1, limit, &tags);
+                built_without_tags(&text, 32);
+            }
+        }
+    }
+}
+
+#[test]
+fn ranges_and_order_without_tags() {
+    for groups in [0, 1, 2, 512, 513, 99_999] {
+        for limit in [0, 1, 2, 65_536, 65_537, 99_999] {
+            for tags in [
+                vec![],
+                vec![1, 3],
+                vec![5, 5],
+                vec![19, 24, 43],
+                [2, 4, 5, 7].map(|multiple| multiple << 29).to_vec(),
+                (1..=LARGEST_GROUP as u32 + 1).collect(),
+                vec![0],
+                vec![0, 7, 7],
+                (0..=LARGEST_GROUP as u32).collect(),
+            ] {
+                let text = list_text(groups, limit, &tags);
+                for room in [0, 31, 32, 53, 60_000] {
+                    built_without_tags(&text, room);
+                }
+            }
+        }
+    }
+}
+
+/// Texts and images without tags, with bytes changed, cut off or lines repeated.
+#[test]
+fn damaged_texts_without_tags() {
+    let mut random = Random::new(8);
+    let bytes = b" 0123456789\n/:-";
+    for _ in 0..20_000 {
+        let groups = 1 + random.below(4) as u32;
+        let count = random.below(12);
+        let mut tags = random.tags(count);
+        let mut text = list_text(groups, 99, &tags);
+        let built = built_without_tags(&text, 95);
+        let at = random.below(text.len());
+        text[at] = bytes[random.below(bytes.len())];
+        built_without_tags(&text, 95);
+        let Some(mut image) = built else {
+            continue;
+        };
+        for _ in 0..1 + random.below(2) {
+            let at = random.below(image.len());
+            match random.below(9) {
+                0 => image.truncate(at + 1),
+                1 if image.len() == 11 + 21 * groups as usize => {
+                    // One line over another: groups at fault.
+                    let [from, to] = [(); 2].map(|()| 11 + 21 * random.below(groups as usize));
+                    image.copy_within(from..from + 21, to);
+                }
+                _ => image[at] = bytes[random.below(bytes.len())],
+            }
+        }
+        tags.extend([0, random.tag(), random.tag()]);
+        checked_and_looked_up_without_tags(&image, &tags);
     }
 }
