@@ -15,6 +15,7 @@ mod long;
 mod placing;
 mod planning;
 mod printing;
+mod tagless;
 mod text;
 
 use std::fs;
@@ -31,6 +32,7 @@ const PROGRAMS: &[Program] = &[
     ("cases_planning", planning::write),
     ("cases_building", building::write),
     ("cases_image", image::write),
+    ("cases_tagless", tagless::write),
     ("cases_list", list::write),
     ("cases_long", long::write),
     ("cases_printing", printing::write),

@@ -2,6 +2,7 @@
 //! form a given graph, and chosen ones.
 
 use model::placing::LARGEST_GROUP;
+use model::tagless::image::GroupLine;
 use random::Random;
 
 use crate::groups::{
@@ -12,14 +13,20 @@ use crate::lists::{different, Case};
 use crate::tally::Tally;
 use crate::Size;
 
-use super::{build, rebuild};
+use super::{build, group_lines, rebuild};
 
 /// Seed 0 serves them, and no word makes one of the two sequences that fill: the row of the third is that
 /// of the two others together. Seed 2 is the first that has a word.
-const ROWS_THAT_CANCEL_OUT: [u32; 3] = [19, 24, 43];
+pub const ROWS_THAT_CANCEL_OUT: [u32; 3] = [19, 24, 43];
 
 /// Seed 1 serves them, and no seed has a word for them: two, four, five and seven times 2^29.
-const SERVED_WITHOUT_A_WORD: [u32; 4] = [2 << 29, 4 << 29, 5 << 29, 7 << 29];
+pub const SERVED_WITHOUT_A_WORD: [u32; 4] = [2 << 29, 4 << 29, 5 << 29, 7 << 29];
+
+/// 32 tags below 300 of which seed 2 is the first that has a word, 3,445,485,007, with bit 31.
+pub const CLOSE_32_WITH_A_WORD: [u32; 32] = [
+    3, 5, 8, 23, 28, 49, 56, 57, 58, 65, 69, 94, 106, 109, 113, 115, 118, 123, 124, 132, 142, 145,
+    197, 219, 227, 231, 232, 240, 249, 260, 262, 266,
+];
 
 pub fn compare(tally: &mut Tally, random: &mut Random, size: &Size) {
     chosen(tally, random);
@@ -91,13 +98,33 @@ fn chosen(tally: &mut Tally, random: &mut Random) {
         let case = Case::new(1, limit, SERVED_WITHOUT_A_WORD);
         assert_eq!(rebuild(tally, random, &case) >> 32, 7);
     }
+    tally.kind("chosen groups of 32 tags");
+    for (tags, seed, word) in [
+        (CLOSE_32_WITH_A_WORD, 2, 3_445_485_007),
+        (CLOSE_32, 14, 2_595_810_485),
+        (PATH, 776, 1_800_777_001),
+        // The last seed there is.
+        (LAST_SEED, 65_535, 148_139_306),
+    ] {
+        let line = GroupLine {
+            start: 0,
+            seed,
+            word,
+        };
+        let taken = Case::new(1, seed + 1, tags);
+        let (_, image) = build(tally, random, &taken);
+        assert!(group_lines(&image).eq([line]));
+        let refused = Case::new(1, seed, tags);
+        assert_eq!(build(tally, random, &refused).0 >> 32, 7);
+    }
+    tally.kind("seeds that serve and have no word");
     // Sets of multiples of 2^28, of which many have seeds that serve and few have words.
     for set in (1u32..1 << 15).step_by(7) {
         let chosen = (1..16).filter(|multiple| set >> (multiple - 1) & 1 == 1);
         let tags: Vec<u32> = chosen.map(|multiple| multiple << 28).collect();
         build(tally, random, &Case::new(1, 16, tags));
     }
-    tally.kind("chosen groups of 25 and 32 tags");
+    tally.kind("groups chosen for placing");
     let without_place_0 = without_place_0();
     for tags in [
         &PATH[..],

@@ -129,7 +129,7 @@ impl Words {
     }
 
     /// Prints the counts, and says whether there were enough: of groups, of every size, of every bit of
-    /// the word, of multiples, of seeds passed over, of strangers.
+    /// the word, of multiples, of seeds passed over, of strangers; and whether the last seed came.
     pub fn report(&self, least: usize) -> bool {
         let Words {
             low_seeds,
@@ -162,6 +162,7 @@ impl Words {
             && sizes == LARGEST_GROUP + 1
             && *low_seeds > 0
             && *high_seeds > 0
+            && *greatest_seed == 65_535
             && *highest_bit > 0
             && self.ones == u32::MAX
             && self.multiples.iter().all(|&count| count > 0)

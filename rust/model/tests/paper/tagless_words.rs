@@ -411,3 +411,22 @@ fn groups_of_32_tags_have_words_of_32_bits() {
     }
     assert!(ones >> 28 != 0, "{ones:x}");
 }
+
+/// 32 tags that seed 65,535 serves, and no other; it has a word for them.
+const LAST_SEED: [u32; 32] = [
+    31, 41, 521, 587, 1926, 2118, 2431, 2632, 2778, 3039, 3273, 3443, 3871, 4127, 4436, 4452, 4662,
+    5245, 5281, 5333, 5421, 6130, 6933, 7620, 7632, 7697, 8132, 8484, 9305, 9764, 9771, 9791,
+];
+
+#[test]
+fn the_last_seed_is_tried_where_the_limit_is_65536() {
+    let taken = first_seed_and_word(&LAST_SEED, 65_536);
+    assert_eq!(taken, Some((65_535, 148_139_306)));
+    assert_eq!(first_seed_and_word(&LAST_SEED, 65_535), None);
+    let rows = LAST_SEED.map(|tag| row_of(65_535, tag));
+    let filling = sequences(&places(&LAST_SEED, 65_535), 1 << 16).unwrap();
+    let words = filling
+        .iter()
+        .filter_map(|&choices| least_for_sequence(&rows, choices));
+    assert_eq!(words.min(), Some(148_139_306));
+}
