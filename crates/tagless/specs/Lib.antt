@@ -1,3 +1,4 @@
 pub mod Number
 pub mod Building
 pub mod BuildingLaws
+pub mod FromText

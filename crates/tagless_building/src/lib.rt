@@ -90,9 +90,14 @@ fn build_ordered(
 {
     let mut seeds = [0; 512];
     let mut words = [0; 512];
-    if let First::At(g) =
-        tagless_plan::word_groups(ordered, ends, groups as usize, limit, &mut seeds, &mut words)
-    {
+    if let First::At(g) = tagless_plan::word_groups(
+        ordered,
+        ends,
+        groups as usize,
+        limit,
+        &mut seeds,
+        &mut words,
+    ) {
         return refuse(Reason::NoSeed, g);
     }
     tagless_write::write_lines(ends, &seeds, &words, groups as usize, tags.len(), buffer);

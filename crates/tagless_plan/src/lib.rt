@@ -33,8 +33,10 @@ pub fn word_groups(
     let mut g = 0;
     while g < groups {
         let end = ends[g];
-        let WordedSeed::At(seed, word) = tagless_seeds::least_worded_seed(&ordered[start..end], limit)
-        else {
+        let WordedSeed::At(seed, word) = tagless_seeds::least_worded_seed(
+            &ordered[start..end],
+            limit,
+        ) else {
             return First::At(g);
         };
         seeds[g] = seed;

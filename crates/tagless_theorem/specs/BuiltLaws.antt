@@ -70,8 +70,10 @@ unfolding numberOf placeIn taglessNumber choicesBy
 number-by-choices groups tags seed word t m =
     let g = groupOf groups t in
     let own = members groups g tags in
-    rw (choice-of-map (choiceBy (word g) (seed g)) own t (members-own groups tags t m),
-    place-by-choice (choiceBy (word g) (seed g) t) (length own) (seed g) t)
+    rw (
+      choice-of-map (choiceBy (word g) (seed g)) own t (members-own groups tags t m),
+      place-by-choice (choiceBy (word g) (seed g) t) (length own) (seed g) t,
+    )
 
 -- The numbers of a list's sheet fit their fields.
 pub record InRange (tags : List ℕ) (groups : ℕ) (seed word : ℕ → ℕ) : Type 0 where
