@@ -24,6 +24,12 @@ pub record Inserted (k : ℕ) (table : List ℕ) (equation : ℕ) (after : List 
   pub from : (W : ℕ) → Solves after W → Solves table W × (parity equation W ≡ 0)
   pub into : (W : ℕ) → Solves table W → parity equation W ≡ 0 → Solves after W
 
+-- W, with bit k set, is the least such word that solves the table.
+pub record LeastSolution (k : ℕ) (table : List ℕ) (W : ℕ) : Type 0 where
+  pub top : W / 2 ^ k ≡ 1
+  pub solves : Solves table W
+  pub least : (X : ℕ) → X / 2 ^ k ≡ 1 → Solves table X → W ≤ X
+
 -- Insertion: `left` is what elimination by the table's equations has left of the equation.
 pub record Reduced (k : ℕ) (table : List ℕ) (equation left : ℕ) : Type 0 where
   pub fits : left < 2 ^ suc k

@@ -15,7 +15,7 @@ use lib.Seq.{getD-set-same, getD-set-other}
 use Rattle.parity.specs.Parity.{parity}
 use Rattle.parity.specs.ParityLaws.{parity-below, parity-step, parity-zero, parity-xor, parity-high}
 use Rattle.elimination.specs.LowestLaws.{Lowest, shift-more, low-more, clear-lower, lowest-below}
-use Rattle.elimination.specs.Table.{Table, Solves, Inserted, Reduced, Settled}
+use Rattle.elimination.specs.Table.{Table, Solves, Inserted, LeastSolution, Reduced, Settled}
 
 -- Every cell of an empty table is 0, past its end as well.
 empty-cell : (n i : ℕ) → _≡_ {A = ℕ} (getD (replicate n 0) i 0) 0
@@ -230,3 +230,8 @@ module _ {k : ℕ} {table : List ℕ} {j W : ℕ} (t : Table k table) (d : Settl
           go : Dec (W / 2 ^ suc j ≡ X / 2 ^ suc j) → W / 2 ^ suc j * 2 + 1 ≤ X / 2 ^ j
           go (yes e) = omega (arith, rw (← e) at (seen X), s j, rest, shift-more X j, e)
           go (no n) = omega (arith, d .least X h s, shift-more X j)
+
+-- With every bit settled it is the least solution.
+pub settled-done : {k : ℕ} {table : List ℕ} {W : ℕ} → Settled k table 0 W → LeastSolution k table W
+settled-done d =
+    record { top = d .top; solves = λ i. d .solves i (omega arith); least = λ X h s. omega (arith, d .least X h s) }

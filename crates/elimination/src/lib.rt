@@ -5,7 +5,7 @@
 ghost use mathlib.Core.Path.{_≡_};
 ghost use Prim.Native.Nat.{_^_, _<_};
 ghost use lib.ListN.{getD};
-ghost use Rattle.elimination.specs.Table.{Table, Inserted, Settled};
+ghost use Rattle.elimination.specs.Table.{Table, Inserted, LeastSolution};
 
 // The bits of an equation; the bit that is its constant, and that bit alone.
 pub const EQUATION_BITS: usize = 33;
@@ -17,7 +17,7 @@ pub const CONSTANT: u64 = 4294967296;
 // Brings an equation into the table: it is reduced by the table's equations until its lowest bit has a free cell, or nothing is left.
 pub fn insert(table: &mut [u64; EQUATION_BITS], equation: u64)
     requires { ⌜ Table 32 (now table) × (equation < 2 ^ 33) ⌝ }
-    ensures kept { λ _. ⌜ Inserted 32 (now (table .entry)) equation (now (table .exit)) ⌝ }
+    ensures cells { λ _. ⌜ Inserted 32 (now (table .entry)) equation (now (table .exit)) ⌝ }
 {
     let mut left = equation;
     while left != 0 {
@@ -34,7 +34,7 @@ pub fn insert(table: &mut [u64; EQUATION_BITS], equation: u64)
 // The least word, with the constant's bit, that solves the table's equations. A bit with no equation stays 0.
 pub fn least_solution(table: &[u64; EQUATION_BITS]) -> u64
     requires { ⌜ Table 32 (now table) × (getD (now table) 32 0 ≡ 0) ⌝ }
-    ensures answer { λ r. ⌜ Settled 32 (now (table .entry)) 0 r ⌝ }
+    ensures answer { λ r. ⌜ LeastSolution 32 (now (table .entry)) r ⌝ }
 {
     let mut word = CONSTANT;
     let mut bit = CONSTANT_BIT;

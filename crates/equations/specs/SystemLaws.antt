@@ -12,7 +12,7 @@ use lib.Pow.{pow-pos, split, high}
 use Rattle.lists.specs.FirstLaws.{first-found, first-out}
 use Rattle.filling.specs.Filling.{Key}
 use Rattle.parity.specs.Parity.{parity}
-use Rattle.elimination.specs.Table.{Table, Solves, Inserted, Settled}
+use Rattle.elimination.specs.Table.{Table, Solves, Inserted, LeastSolution}
 use Rattle.elimination.specs.TableLaws.{empty-table, empty-solved, constant-none}
 use Rattle.equations.specs.Equation.{rowsFill, leastOfRows, withConstant, equationOf}
 use Rattle.equations.specs.EquationLaws.{Rows, SolvesPlaces, fills-of-solves, solves-of-fills}
@@ -58,12 +58,12 @@ module _ {k : ℕ} {keys : List Key} {rows : List ℕ} {m : ℕ} {table : List �
       constant-none (s .sound) full (withConstant k word) (constant-top k word lt)
       (s .into (withConstant k word) (λ v below. solves-of-fills k word lt all fills v (omega arith)))))
 
-  -- With all equations in the table, settling its bits ends at the least word that makes them all different.
-  pub least-some : m ≡ length keys → (W : ℕ) → Settled k table 0 W → leastOfRows k keys rows ≡ some (W % 2 ^ k)
+  -- With all equations in the table, its least solution is the least word that makes them all different.
+  pub least-some : m ≡ length keys → (W : ℕ) → LeastSolution k table W → leastOfRows k keys rows ≡ some (W % 2 ^ k)
   unfolding leastOfRows withConstant
   least-some whole W d =
       first-found (rowsFill keys rows) (2 ^ k) (W % 2 ^ k) below
-      (fills-of-solves k (W % 2 ^ k) below all (rw (← whole, ← own) (s .from W (λ i. d .solves i (omega arith)))))
+      (fills-of-solves k (W % 2 ^ k) below all (rw (← whole, ← own) (s .from W (d .solves))))
       (λ w lt. not-eq-not .0 (lower w lt (omega (arith, below))))
     where
       below : W % 2 ^ k < 2 ^ k

@@ -37,10 +37,10 @@ reading-place text short =
     (λ _. tt)
 
 -- and one of an operation an index of a list that is not too long, or a group. What the checks before it say:
-few : (tags : List ℕ) → met (ltb tagsMax (length tags)) ≡ none → length tags ≤ textLines
+pub few : (tags : List ℕ) → met (ltb tagsMax (length tags)) ≡ none → length tags ≤ textLines
 few tags e = omega (arith, ltb-false tagsMax (length tags) (false-of-met _ e))
 
-legal : (groups : ℕ) → met (outside 1 groupsMax groups) ≡ none → groups ≤ textLines
+pub legal : (groups : ℕ) → met (outside 1 groupsMax groups) ≡ none → groups ≤ textLines
 legal groups e = omega (arith, (inside 1 groupsMax groups (false-of-met _ e)) .1)
 
 planning-place : (tags : List ℕ) (groups limit : ℕ) → PlaceBelow textLines (planningOf tags groups limit)
@@ -75,7 +75,7 @@ writing-place tags plan room =
     then tt)
     (λ _. tt)
 
-list-place : (text : List ℕ) → PlaceBelow textLines (listFromText text)
+pub list-place : (text : List ℕ) → PlaceBelow textLines (listFromText text)
 unfolding listFromText
 list-place text =
     below-checks textLines ((5, met (ltb textMax (length text))) ∷ []) (readingOf text tagsMax)

@@ -34,11 +34,11 @@ module _ (text : List ℕ) where
   text-read short = rw (le-ltb textMax (length text) short)
 
   -- Of a text that is refused nothing is owed.
-  of-none : {number place : ℕ} (holds : Listed → Type 0) → listFromText text ≡ refused number place → OfList text holds
+  pub of-none : {number place : ℕ} (holds : Listed → Type 0) → listFromText text ≡ refused number place → OfList text holds
   of-none holds e listed e′ = absurd (let z : _≡_ {A = ℕ} 0 1 = cc in omega arith)
 
   -- Of a list that is read, what its operation owes.
-  of-listed : {listed : Listed} (holds : Listed → Type 0) → listFromText text ≡ answered listed → holds listed → OfList text holds
+  pub of-listed : {listed : Listed} (holds : Listed → Type 0) → listFromText text ≡ answered listed → holds listed → OfList text holds
   of-listed {listed} holds e h stated e′ = let same : listed ≡ stated = cc in rw same at h
 
   -- Planning: the answer, the plan, and planning's part of Condition 3.

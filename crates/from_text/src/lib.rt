@@ -19,7 +19,7 @@ ghost use Rattle.numbering.specs.FromText.{buildingFromText, bufferFromText};
 ghost use Rattle.from_text.specs.Condition3.{TextPlanningCondition3, TextWritingCondition3, TextCondition3};
 
 // Reads the list of a text into cells for as many tags as a list may have. A text above 65,527 bytes is refused unexamined.
-fn read_text(text: &[u8], cells: &mut [u32]) -> ListAnswer
+pub fn read_text(text: &[u8], cells: &mut [u32]) -> ListAnswer
     requires { ⌜ length (now cells) ≡ tagsMax ⌝ }
     ensures answer { λ r. ⌜ listOutcome r ≡ answeredBy headOf (listFromText (now (text .entry))) ⌝ }
     ensures cells { λ _. ⌜ now (cells .exit) ≡ cellsAfter (listFromText (now (text .entry))) (now (cells .entry)) ⌝ }

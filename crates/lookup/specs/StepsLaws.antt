@@ -1,12 +1,12 @@
 -- Each step of a lookup, by what the lines read as. Assumes nothing.
 use mathlib.Core.Path.{_≡_, refl, _∙_, ap}
-use mathlib.Core.Bool.{Bool, true, false, not, _&&_, _||_}
+use mathlib.Core.Bool.{true, false, _||_}
 use mathlib.Core.List.{List}
-use mathlib.Core.Option.{Option, none, some, Option·getD, Option·map}
+use mathlib.Core.Option.{Option, none, some, Option·map}
 use Prim.Native.Nat.{ℕ, zero, suc, _+_, _-_, _≤_, _<_}
 use native.Mathlib.Omega.{arith}
 use lib.Dec.{ltb}
-use borrow.Author.Tests.{eq-eqb, ne-eqb, lt-ltb, le-ltb}
+use borrow.Author.Tests.{eq-eqb, ne-eqb}
 use Rattle.refusal.specs.Limits.{unwired}
 use Rattle.refusal.specs.Outcome.{Outcome, answered, refused}
 use Rattle.lists.specs.First.{metAt, isSome}
@@ -14,9 +14,9 @@ use Rattle.refusal.specs.Checks.{inOrder}
 use Rattle.refusal.specs.ChecksLaws.{inOrder-append}
 use Rattle.hash.specs.Formula.{groupOf, placeOf}
 use Rattle.text.specs.Line.{lineAt, groupLine, slotLine}
-use Rattle.image.specs.View.{View, viewOf, countIn, groupsIn, startIn, seedIn, endIn, slotLineIn, slotIn, faulty, candidateIn}
+use Rattle.image.specs.View.{viewOf, countIn, groupsIn, slotLineIn, slotIn, faulty, candidateIn}
 use Rattle.image.specs.Checking.{openingChecks}
-use Rattle.image.specs.Lookup.{Found, number, unknown, groupChecks, lookupChecks, atSlot, lookupInGroup, lookupOf}
+use Rattle.image.specs.Lookup.{Found, number, unknown, lookupChecks, atSlot, lookupInGroup, lookupOf}
 use Rattle.image.specs.UnwiredLaws.{by-wired, lookup-unwired, lookup-wired}
 use Rattle.opening.specs.Opening.{openingOf, Opens}
 use Rattle.opening.specs.OpeningLaws.{opening-refused, opening-passes, opening-answered}

@@ -6,5 +6,5 @@ use Rattle.image.specs.View.{View, countIn, groupsIn}
 use Rattle.image.specs.Checking.{openingFor}
 
 -- N and B, or the refusal: 11, 12 or 11.
-unfoldable pub openedFor : ℕ → View → Outcome (ℕ × ℕ)
+abbrev pub openedFor : ℕ → View → Outcome (ℕ × ℕ)
 openedFor whole v = inOrder (openingFor whole v) (answered (countIn v, groupsIn v))

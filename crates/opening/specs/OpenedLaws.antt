@@ -24,17 +24,14 @@ module _ (whole : ℕ) (v : View) where
   -- A refusal of the opening is a refusal of everything that begins with it.
   pub refused-for : {A : Type 0} {number place : ℕ} → openedFor whole v ≡ refused number place
       → (o : Outcome A) → inOrder (openingFor whole v) o ≡ refused number place
-  unfolding openedFor
   refused-for e o = refused-inOrder (openingFor whole v) o (inOrder-refused (openingFor whole v) _ e)
 
   -- Behind an image that opens, what follows decides.
   pub passes-for : {A : Type 0} {counts : ℕ × ℕ} → openedFor whole v ≡ answered counts → (o : Outcome A) → inOrder (openingFor whole v) o ≡ o
-  unfolding openedFor
   passes-for e o = inOrder-pass (openingFor whole v) o ((inOrder-answered (openingFor whole v) _ e) .0)
 
   -- Its length is the one stated, and its line 0 states the counts.
   pub opens-for : {count groups : ℕ} → openedFor whole v ≡ answered (count, groups) → (v .size ≡ whole) × (v .header ≡ some (count, groups))
-  unfolding openedFor
   opens-for {count} {groups} e =
       let ((short, (well, (long, end))), answer) = inOrder-answered (openingFor whole v) (answered (countIn v, groupsIn v)) e in
       let (pair, reads) = some-of-isSome (v .header) (not-false (isSome (v .header)) (false-of-met (not (isSome (v .header))) well)) in (
@@ -51,19 +48,19 @@ module _ (whole : ℕ) (v : View) where
 
   -- The four ways.
   pub short-for : v .size < lineLength → openedFor whole v ≡ refused 11 0
-  unfolding openedFor inOrder met metAt
+  unfolding inOrder met metAt
   short-for short = rw (lt-ltb (v .size) lineLength short)
 
   module _ (long : lineLength ≤ v .size) where
     pub malformed-for : v .header ≡ none → openedFor whole v ≡ refused 12 0
-    unfolding openedFor inOrder met metAt isSome
+    unfolding inOrder met metAt isSome
     malformed-for header = rw (le-ltb (v .size) lineLength long, header)
 
     module _ {n b : ℕ} (header : v .header ≡ some (n, b)) where
       pub other-for : (v .size ≡ whole → ⊥) → openedFor whole v ≡ refused 11 0
-      unfolding openedFor inOrder met metAt isSome
+      unfolding inOrder met metAt isSome
       other-for other = rw (le-ltb (v .size) lineLength long, header, ne-eqb (v .size) whole other)
 
       pub counts-for : v .size ≡ whole → openedFor whole v ≡ answered (n, b)
-      unfolding openedFor inOrder met metAt isSome countIn groupsIn
+      unfolding inOrder met metAt isSome countIn groupsIn
       counts-for same = rw (le-ltb (v .size) lineLength long, header, eq-eqb (v .size) whole same)

@@ -1,6 +1,6 @@
 -- What the seed that placing answers says of a group's part, and the cells that hold the seeds. Assumes nothing.
 use mathlib.Core.Path.{_≡_, refl, sym, _∙_}
-use mathlib.Core.List.{List}
+use mathlib.Core.List.{List, _++_}
 use mathlib.Core.Option.{Option, none, some}
 use Prim.Native.Nat.{ℕ, suc, _+_, _≤_, _<_}
 use native.Mathlib.Numerals.{add-one}
@@ -58,13 +58,17 @@ module _ (part : List ℕ) (limit : ℕ) (legal : (1 ≤ limit) × (limit ≤ li
           let refusal = refused-of-by (λ (placed : Placement). placed .seed) (placingOf part limit) e in
           absurd (let z : _≡_ {A = ℕ} 0 1 = cc in omega arith)
 
+-- One number more behind those that are stored.
+pub stored-more : (number : ℕ → ℕ) (g : ℕ) {x : ℕ} (before cells : List ℕ) → g < length before
+    → cells ≡ upTo g number ++ drop g before → number g ≡ x → set cells g x ≡ upTo (g + 1) number ++ drop (g + 1) before
+stored-more number g {x} before cells lt e is =
+    rw (e, drop-cons before g 0 lt)
+    (set-at (upTo g number) (getD before g 0) (drop (suc g) before) x g (upTo-length g number)
+    ∙ sym (rw (add-one g, upTo-more g number, append-snoc) (rw is)))
+
 -- One seed more.
 pub found-more : (ordered ends : List ℕ) (limit g : ℕ) {seed : ℕ} (before cells : List ℕ) → g < length before
     → cells ≡ seedsFound ordered ends limit g before → partSeed ordered ends limit g ≡ seed
     → set cells g seed ≡ seedsFound ordered ends limit (g + 1) before
 unfolding seedsFound
-found-more ordered ends limit g {seed} before cells lt e found =
-    let own = partSeed ordered ends limit in
-    rw (e, drop-cons before g 0 lt)
-    (set-at (upTo g own) (getD before g 0) (drop (suc g) before) seed g (upTo-length g own)
-    ∙ sym (rw (add-one g, upTo-more g own, append-snoc) (rw found)))
+found-more ordered ends limit g before cells lt e found = stored-more (partSeed ordered ends limit) g before cells lt e found

@@ -60,12 +60,12 @@ promised64 o fits holds told answer h =
 pub answers-apart : (o p : Outcome ℕ) → Fits o → Fits p → answer64 o ≡ answer64 p → o ≡ p
 answers-apart o p fo fp e = sym (outcome-answer o fo) ∙ ap outcome64 e ∙ outcome-answer p fp
 
-fits-of : (bound : ℕ) (o : Outcome ℕ) → bound ≤ tagEnd → PlaceBelow bound o → Numbered o → ((n : ℕ) → o ≡ answered n → n < tagEnd) → Fits o
+pub fits-of : (bound : ℕ) (o : Outcome ℕ) → bound ≤ tagEnd → PlaceBelow bound o → Numbered o → ((n : ℕ) → o ≡ answered n → n < tagEnd) → Fits o
 fits-of bound (answered n) le place numbered below = below n refl
 fits-of bound (refused reason place) le low numbered below = (numbered, omega arith)
 
 -- Every refusal of planning, of writing and of building from a text has a number, B is at most 512, and a length at most 50,699.
-list-numbered : (text : List ℕ) → Numbered (listFromText text)
+pub list-numbered : (text : List ℕ) → Numbered (listFromText text)
 unfolding listFromText readingOf readingChecks
 list-numbered text = numbered-checks _ (readingOf text tagsMax) refl (numbered-checks (readingChecks text tagsMax) _ refl tt)
 
@@ -147,7 +147,7 @@ lookup-numbered image t =
     (slots-numbered v t _ _ (slots-numbered v t _ (answered unknown) tt))))
 
 -- A number that lookup answers.
-abbrev SlotFound : Outcome Found → Type 0
+abbrev pub SlotFound : Outcome Found → Type 0
 SlotFound (answered (number j)) = j < tagsMax
 SlotFound (answered unknown) = Unit {0}
 SlotFound (refused reason place) = Unit {0}
@@ -160,16 +160,17 @@ lookup-slot image t = go (lookupOf image t) refl
     go (answered unknown) e = tt
     go (refused reason place) e = tt
 
-pub lookup-fits : (image : List ℕ) (t : ℕ) → Fits (answeredBy foundNumber (lookupOf image t))
+-- A number below 4,096, unknown, or a refusal that fits.
+pub found-fits : (o : Outcome Found) → SlotFound o → PlaceBelow imageLines o → Numbered o → Fits (answeredBy foundNumber o)
 unfolding answeredBy foundNumber
-lookup-fits image t = go (lookupOf image t) (lookup-slot image t) (lookup-place image t) (lookup-numbered image t)
-  where
-    go : (o : Outcome Found) → SlotFound o → PlaceBelow imageLines o → Numbered o → Fits (answeredBy foundNumber o)
-    go (answered (number j)) slot place numbered = omega arith
-    go (answered unknown) slot place numbered = omega arith
-    go (refused reason place) slot low numbered = (numbered, omega arith)
+found-fits (answered (number j)) slot place numbered = omega arith
+found-fits (answered unknown) slot place numbered = omega arith
+found-fits (refused reason place) slot low numbered = (numbered, omega arith)
 
-found-apart : (o p : Outcome Found) → SlotFound o → SlotFound p → answeredBy foundNumber o ≡ answeredBy foundNumber p → o ≡ p
+pub lookup-fits : (image : List ℕ) (t : ℕ) → Fits (answeredBy foundNumber (lookupOf image t))
+lookup-fits image t = found-fits (lookupOf image t) (lookup-slot image t) (lookup-place image t) (lookup-numbered image t)
+
+pub found-apart : (o p : Outcome Found) → SlotFound o → SlotFound p → answeredBy foundNumber o ≡ answeredBy foundNumber p → o ≡ p
 unfolding answeredBy foundNumber
 found-apart (answered (number i)) (answered (number j)) so sp e = let same : i ≡ j = cc in rw same
 found-apart (answered (number i)) (answered unknown) so sp e = let same : i ≡ 4294967295 = cc in absurd (omega arith)

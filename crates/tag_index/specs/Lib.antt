@@ -6,3 +6,5 @@ pub mod Condition2Laws
 pub mod Condition3
 pub mod PlaceGroupLaws
 pub mod UnwiredLaws
+pub mod Tagless
+pub mod TaglessLaws

@@ -16,6 +16,9 @@ ghost use Rattle.numbering.specs.FromText.{planFromText, writtenFromText, buffe
 ghost use Rattle.tag_index.specs.Answer64.{answer64, planAnswer, writeAnswer, buildAnswer, checkAnswer, lookupAnswer};
 ghost use Rattle.tag_index.specs.Answer64.{placeAnswer, wordAfter};
 ghost use Rattle.tag_index.specs.Condition2.{AnswerCondition2};
+ghost use Rattle.tagless.specs.FromText.{taglessBufferFromText};
+ghost use Rattle.tag_index.specs.Tagless.{taglessBuildAnswer, taglessCheckAnswer, taglessLookupAnswer};
+ghost use Rattle.tag_index.specs.Tagless.{TaglessBuildCondition, TaglessAnswerCondition2};
 ghost use Rattle.tag_index.specs.Condition3.{PlanCondition3, WriteCondition3, BuildCondition3, PlaceCondition3};
 
 // Builds the image of a list text at the beginning of `image`, and answers its length.
@@ -94,6 +97,43 @@ pub extern "C" fn tag_index_place_group(tags: &[u32], limit: u32, word: &mut [u3
             seed as u64
         }
         PlacingAnswer::Refused(refusal) => refusal_answer(refusal),
+    }
+}
+
+// Builds the index without tags of a list text at the beginning of `image`, and answers its length.
+#[no_mangle]
+pub extern "C" fn tag_index_tagless_build(text: &[u8], image: &mut [u8]) -> u64
+    ensures answer { λ r. ⌜ r ≡ taglessBuildAnswer (now (text .entry)) (length (now (image .entry))) ⌝ }
+    ensures bytes { λ _. ⌜ now (image .exit) ≡ taglessBufferFromText (now (text .entry)) (now (image .entry)) ⌝ }
+    ensures condition { λ r. ⌜ TaglessBuildCondition (now (text .entry)) (now (image .entry)) r (now (image .exit)) ⌝ }
+{
+    match tagless_from_text::build_from_text(text, image) {
+        BuildAnswer::Built(size) => size as u64,
+        BuildAnswer::Refused(refusal) => refusal_answer(refusal),
+    }
+}
+
+// Checks an index without tags, and answers 0 for one that is accepted.
+#[no_mangle]
+pub extern "C" fn tag_index_tagless_check(image: &[u8]) -> u64
+    ensures answer { λ r. ⌜ r ≡ taglessCheckAnswer (now (image .entry)) ⌝ }
+{
+    match tagless_checking::tagless_check(image) {
+        CheckAnswer::Accepted => 0,
+        CheckAnswer::Refused(refusal) => refusal_answer(refusal),
+    }
+}
+
+// Looks a tag up in an index without tags, and answers its number; a tag that was not listed has one too.
+#[no_mangle]
+pub extern "C" fn tag_index_tagless_lookup(image: &[u8], tag: u32) -> u64
+    ensures answer { λ r. ⌜ r ≡ taglessLookupAnswer (now (image .entry)) tag ⌝ }
+    ensures checked { λ r. ⌜ TaglessAnswerCondition2 (now (image .entry)) tag r ⌝ }
+{
+    match tagless_lookup::tagless_lookup(image, tag) {
+        LookupAnswer::Number(j) => j as u64,
+        LookupAnswer::Unknown => UNKNOWN,
+        LookupAnswer::Refused(refusal) => refusal_answer(refusal),
     }
 }
 

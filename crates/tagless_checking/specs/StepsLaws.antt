@@ -3,7 +3,7 @@ use mathlib.Core.Path.{_≡_, refl, sym, _∙_, ap}
 use mathlib.Core.Bool.{Bool, true, false, not}
 use mathlib.Core.List.{List}
 use mathlib.Core.Option.{Option, none, some, Option·getD, Option·map}
-use Prim.Native.Nat.{ℕ, suc, _+_, _≤_, _<_}
+use Prim.Native.Nat.{ℕ, suc, _+_, _<_}
 use native.Mathlib.Omega.{arith}
 use native.Mathlib.Numerals.{add-one}
 use lib.Dec.{ltb}
@@ -16,7 +16,7 @@ use Rattle.lists.specs.First.{first, isSome}
 use Rattle.lists.specs.FirstLaws.{first-out, first-cong}
 use Rattle.refusal.specs.Checks.{inOrder}
 use Rattle.refusal.specs.ChecksLaws.{inOrder-append}
-use Rattle.image.specs.View.{View, countIn, groupsIn, startIn, endIn, faulty}
+use Rattle.image.specs.View.{View, groupsIn, startIn, endIn, faulty}
 use Rattle.image.specs.Checking.{malformedIn}
 use Rattle.image.specs.FaultLaws.{end-next, end-last}
 use Rattle.checking.specs.Steps.{faultyAt}

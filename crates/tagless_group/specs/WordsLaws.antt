@@ -191,11 +191,18 @@ word-empty : (s word : ℕ) → WordFills [] s word
 unfolding choicesBy candidates chosen distinct
 word-empty s word = record { whole = refl; apart = refl }
 
--- "An empty group has 0 and 0."
-pub leastWord-empty : (s : ℕ) → leastWord [] s ≡ some 0
-leastWord-empty s =
-    leastWord-only [] s (record { below = omega arith; fills = word-empty s 0; lower = λ w lt f. omega arith })
+-- So its least word is 0 under every seed,
+least-empty : (s : ℕ) → LeastWord [] s 0
+least-empty s = record { below = omega arith; fills = word-empty s 0; lower = λ w lt f. omega arith }
 
+pub leastWord-empty : (s : ℕ) → leastWord [] s ≡ some 0
+leastWord-empty s = leastWord-only [] s (least-empty s)
+
+-- and "An empty group has 0 and 0".
 pub leastWordSeed-empty : (limit : ℕ) → 0 < limit → leastWordSeed [] limit ≡ some 0
 leastWordSeed-empty limit below =
     leastWordSeed-only [] limit 0 0 below (omega arith) (word-empty 0 0) (λ t lt. absurd (omega arith))
+
+pub wordedSeed-empty : (limit : ℕ) → 0 < limit → wordedSeed [] limit ≡ some (0, 0)
+wordedSeed-empty limit below =
+    wordedSeed-only [] limit (record { below = below; least = least-empty 0; passed = λ t lt. absurd (omega arith) })

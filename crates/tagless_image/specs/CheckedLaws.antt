@@ -1,30 +1,28 @@
 -- What checking establishes of an index without tags, and what lookup then answers. Assumes nothing.
-use mathlib.Core.Path.{_≡_, refl, sym, _∙_, ap}
-use mathlib.Core.Logic.{_↔_}
+use mathlib.Core.Path.{_≡_, refl, _∙_}
 use mathlib.Core.Bool.{Bool, true, false, cond, not, _&&_, _||_}
 use mathlib.Core.List.{List}
-use mathlib.Core.Option.{Option, none, some}
-use Prim.Native.Nat.{ℕ, zero, suc, _+_, _≤_, _<_}
+use Prim.Native.Nat.{ℕ, zero, suc, _+_, _<_}
 use native.Mathlib.Omega.{arith}
 use lib.Dec.{eqb, ltb}
-use borrow.Author.Tests.{ltb-true, lt-ltb, le-ltb, eqb-true, eqb-false, eq-eqb, ne-eqb, not-false}
+use borrow.Author.Tests.{ltb-true, lt-ltb, le-ltb, eq-eqb, ne-eqb, not-false}
 use Rattle.refusal.specs.Limits.{unwired}
-use Rattle.refusal.specs.Outcome.{Outcome, answered}
-use Rattle.lists.specs.First.{first, isSome}
+use Rattle.refusal.specs.Outcome.{answered}
+use Rattle.lists.specs.First.{isSome}
 use Rattle.lists.specs.FirstLaws.{first-none, first-out, some-of-isSome}
 use Rattle.refusal.specs.Checks.{Pass}
-use Rattle.refusal.specs.ChecksLaws.{_then_, metAt-false, false-of-met, passed, pass-append, pass-split, inOrder-pass, inOrder-answered}
+use Rattle.refusal.specs.ChecksLaws.{_then_, metAt-false, false-of-met, passed, pass-append, pass-split, inOrder-pass}
 use Rattle.hash.specs.FormulaLaws.{group-below}
 use Rattle.text.specs.Line.{lineAt, imageHeader}
 use Rattle.text.specs.LineLaws.{image-header-only}
 use Rattle.image.specs.View.{View, countIn, groupsIn, startIn, endIn, faulty}
 use Rattle.image.specs.Checking.{malformedIn}
-use Rattle.image.specs.Lookup.{Found, number, unknown, groupChecks}
+use Rattle.image.specs.Lookup.{number, unknown, groupChecks}
 use Rattle.image.specs.LinesRead.{ownGroup}
 use Rattle.image.specs.Fair.{AllFair}
 use Rattle.image.specs.FaultLaws.{fair-of-faulty, end-most}
 use Rattle.tagless_image.specs.View.{taglessView, wordIn}
-use Rattle.tagless_image.specs.Checking.{taglessOpening, taglessChecks, taglessCheckingOf}
+use Rattle.tagless_image.specs.Checking.{taglessOpening, taglessChecks}
 use Rattle.tagless_image.specs.Lookup.{taglessLookupChecks, numberBy, taglessInGroup, taglessLookupOf}
 use Rattle.tagless_image.specs.LookupLaws.{lookup-unwired, lookup-wired}
 

@@ -1,13 +1,12 @@
 -- What a lookup in an index without tags depends on, and how far its numbers go, for any bytes at all. Assumes nothing.
 use mathlib.Core.Path.{_≡_, refl, sym, _∙_, ap}
-use mathlib.Core.Bool.{Bool, true, false, cond, not, _&&_}
+use mathlib.Core.Bool.{Bool, true, false, cond, not}
 use mathlib.Core.List.{List}
-use mathlib.Core.Option.{Option, none, some, Option·getD, Option·map}
 use Prim.Native.Nat.{ℕ, suc, _-_, _≤_, _<_}
 use native.Mathlib.Omega.{arith}
 use lib.Dec.{eqb, ltb}
 use lib.ListN.{length}
-use borrow.Author.Tests.{ltb-true, ltb-false, eqb-false, ne-eqb, not-false}
+use borrow.Author.Tests.{ltb-false, eqb-false, ne-eqb}
 use Rattle.lists.specs.BoolLaws.{neither-of-or}
 use Rattle.refusal.specs.Limits.{unwired}
 use Rattle.refusal.specs.Outcome.{Outcome, answered}
@@ -26,7 +25,7 @@ use Rattle.image.specs.Fair.{Fair}
 use Rattle.image.specs.FaultLaws.{fair-of-faulty}
 use Rattle.image.specs.UnwiredLaws.{by-wired}
 use Rattle.tagless_group.specs.Words.{choiceBy}
-use Rattle.tagless_image.specs.View.{groupLineAt, statedAt, startAndSeed, taglessView, wordIn}
+use Rattle.tagless_image.specs.View.{groupLineAt, statedAt, taglessView, wordIn}
 use Rattle.tagless_image.specs.Checking.{taglessOpening}
 use Rattle.tagless_image.specs.Lookup.{taglessLookupChecks, numberBy, taglessInGroup, taglessLookupOf}
 use Rattle.tagless_image.specs.LinesRead.{GroupLinesRead}

@@ -1,10 +1,10 @@
 -- The length of an index without tags, and that each line of it is the line that was put there and reads back. Assumes nothing.
-use mathlib.Core.Path.{_≡_, refl, sym, _∙_, ap}
-use mathlib.Core.List.{List, [], _++_, flatten}
+use mathlib.Core.Path.{_≡_, _∙_, ap}
+use mathlib.Core.List.{List, [], flatten}
 use mathlib.Core.Option.{some}
 use Prim.Native.Nat.{ℕ, suc, _+_, _*_, _^_, _≤_, _<_}
 use native.Mathlib.Omega.{arith}
-use lib.ListN.{length, take, drop, length-append}
+use lib.ListN.{length, length-append}
 use lib.Seq.{take-at, drop-append-add}
 use Rattle.refusal.specs.Limits.{tagEnd, tagsMax, groupsMax, seedMax}
 use Rattle.lists.specs.UpTo.{upTo}

@@ -1,18 +1,16 @@
 -- Lookup as it is defined says so. Assumes nothing.
-use mathlib.Core.Path.{_≡_, refl, _∙_}
-use mathlib.Core.Logic.{_⊎_, inl, inr}
+use mathlib.Core.Path.{_≡_, refl}
+use mathlib.Core.Logic.{inl, inr}
 use mathlib.Core.Bool.{Bool, true, false}
 use mathlib.Core.List.{List}
-use mathlib.Core.Option.{Option, some}
-use Prim.Native.Nat.{ℕ, _<_}
+use Prim.Native.Nat.{ℕ}
 use native.Mathlib.Omega.{arith}
 use lib.Dec.{eqb}
 use borrow.Author.Tests.{eqb-true, eqb-false}
-use Rattle.refusal.specs.Outcome.{Outcome, answered}
+use Rattle.refusal.specs.Outcome.{answered}
 use Rattle.refusal.specs.ChecksLaws.{inOrder-answered}
-use Rattle.hash.specs.Formula.{groupOf}
-use Rattle.image.specs.View.{groupsIn, startIn, endIn}
-use Rattle.image.specs.Lookup.{Found, number, unknown}
+use Rattle.image.specs.View.{startIn, endIn}
+use Rattle.image.specs.Lookup.{number, unknown}
 use Rattle.image.specs.LinesRead.{ownGroup}
 use Rattle.image.specs.UnwiredLaws.{by-wired}
 use Rattle.tagless_image.specs.View.{taglessView}

@@ -17,7 +17,7 @@ use Rattle.tagless_group.specs.Row.{rowOf}
 use Rattle.tagless_group.specs.Words.{choiceBy, choicesBy, wordFills, leastWord}
 use Rattle.equations.specs.Equation.{rowChoice, rowChoices, rowsFill, leastOfRows}
 use Rattle.equations.specs.Stated.{Stated}
-use Rattle.tagless_seeds.specs.Rows.{rowsUnder}
+use Rattle.tagless_seeds.specs.Rows.{rowsUnder, rowsInto}
 
 -- The choices that a word makes by the rows are those that it makes for the tags,
 choices-same : (word s : ℕ) (tags : List ℕ) → choicesBy word s tags ≡ rowChoices word (rowsUnder tags s)
@@ -41,17 +41,19 @@ row-below (t ∷ tags) s (suc i) = row-below tags s i
 -- An array with the rows laid into it
 module _
     (tags : List ℕ) (s : ℕ) (before : List ℕ) {rows : List ℕ} (few : length tags ≤ groupMax) (size : length before ≡ groupMax)
-    (laid : rows ≡ rowsUnder tags s ++ drop (length tags) before) where
+    (laid : rows ≡ rowsInto tags s before) where
   each : length (rowsUnder tags s) ≡ length tags
   unfolding rowsUnder
   each = length-map tags (rowOf s)
 
   -- has as many cells as before,
   pub rows-cells : length rows ≡ groupMax
+  unfolding rowsInto
   rows-cells = rw laid (simp (length-append, length-drop) (omega (arith, each)))
 
   -- the rows of the tags,
   pub rows-taken : take (length tags) rows ≡ rowsUnder tags s
+  unfolding rowsInto
   rows-taken = rw laid (take-at (rowsUnder tags s) (drop (length tags) before) (length tags) each)
 
   -- and they have 32 bits.

@@ -1,16 +1,17 @@
 // The seed search of a group in an index without tags: the least seed below a limit that has a word, and its least word.
 //
 // The ones of the occupancy word drop most seeds; the others are decided by linear equations.
+mod worked;
+
 use equations::Word;
 use refusal::MEMBER_CELLS;
 ghost use mathlib.Core.Path.{_≡_};
-ghost use mathlib.Core.List.{_++_};
 ghost use Prim.Native.Nat.{_≤_};
-ghost use lib.ListN.{length, drop};
+ghost use lib.ListN.{length};
 ghost use Rattle.refusal.specs.Limits.{groupMax, limitMax, seedMax};
 ghost use Rattle.tagless_group.specs.Words.{wordedSeed};
 ghost use Rattle.tagless_seeds.specs.Answer.{wordedMeaning};
-ghost use Rattle.tagless_seeds.specs.Rows.{rowsUnder};
+ghost use Rattle.tagless_seeds.specs.Rows.{rowsInto};
 
 // The least seed that has a word, and its least word.
 pub enum WordedSeed {
@@ -51,8 +52,7 @@ pub fn least_worded_seed(tags: &[u32], limit: u32) -> WordedSeed
 // Lays out the rows of the tags under a seed, from cell 0 on. The other cells stay.
 fn lay_rows(tags: &[u32], seed: u32, rows: &mut [u32; MEMBER_CELLS])
     requires { ⌜ (length (now tags) ≤ groupMax) × (seed ≤ seedMax) × (length (now rows) ≡ groupMax) ⌝ }
-    ensures cells { λ _. ⌜ now (rows .exit)
-        ≡ rowsUnder (now (tags .entry)) seed ++ drop (length (now (tags .entry))) (now (rows .entry)) ⌝ }
+    ensures cells { λ _. ⌜ now (rows .exit) ≡ rowsInto (now (tags .entry)) seed (now (rows .entry)) ⌝ }
 {
     let multiplier = tagless_group::row_multiplier(seed);
     let mut i = 0;

@@ -6,7 +6,7 @@ use Prim.Native.Nat.{ℕ}
 use Rattle.text.specs.Figure.{leading, figure}
 use Rattle.text.specs.Field.{valueFrom, same, field}
 use Rattle.text.specs.Line.{ended, bothFields, tagOf, within}
-use Rattle.word_line.specs.WordLine.{wordLine, andThird, tripleOf, groupWordLine}
+use Rattle.word_line.specs.WordLine.{andThird, tripleOf, groupWordLine}
 
 -- "    7    9", the start and the seed.
 abbrev startAndSeed : List ℕ

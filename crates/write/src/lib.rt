@@ -59,7 +59,7 @@ fn write_line(
 }
 
 // Where group g begins: where the group before it ends.
-fn start_of(ends: &[usize], g: usize) -> u32
+pub fn start_of(ends: &[usize], g: usize) -> u32
     requires { ⌜ (g ≤ length (now ends)) × EndsSmall (now ends) g ⌝ }
     ensures answer { λ r. ⌜ r ≡ partStart (now (ends .entry)) g ⌝ }
 {

@@ -15,7 +15,7 @@ use borrow.Author.Tests.{eqb-true, eqb-false}
 use Rattle.parity.specs.Parity.{parity}
 use Rattle.parity.specs.ParityLaws.{parity-below, parity-zero}
 use Rattle.elimination.specs.Table.{Table, Settled}
-use Rattle.elimination.specs.TableLaws.{settled-start, settled-stay, settled-set}
+use Rattle.elimination.specs.TableLaws.{settled-start, settled-stay, settled-set, settled-done}
 use Rattle.elimination.proofs.least_solution.Statement.{statement}
 use Rattle.elimination.proofs.least_solution.Tie as tie
 
@@ -84,7 +84,7 @@ returns : tie.Need-returns Inv-loop μ-loop
 returns c =
     let at = c .before .loop in
     let e : at .bit ≡ 0 = omega arith in
-    rw e at (at .inv .settled)
+    settled-done (rw e at (at .inv .settled))
 
 pub least-solution-spec : {M : Type 1} → statement M
 least-solution-spec =

@@ -1,8 +1,7 @@
 -- `tagless_lookup::group_end` meets its contract: the last group ends at N, and any other where the next group's line says.
 -- Assumes nothing.
 use borrow.Author.Needs.{needs}
-use mathlib.Core.Path.{_≡_, sym, _∙_, ap}
-use Prim.Native.Nat.{ℕ, suc}
+use mathlib.Core.Path.{sym, _∙_, ap}
 use native.Mathlib.Omega.{arith}
 use native.Mathlib.Numerals.{add-one}
 use Rattle.word_line.specs.Answer.{groupWordMeaning}

@@ -1,7 +1,6 @@
 -- `tagless_opening::open` meets its contract: each branch is one of the four ways in which an index without tags opens. Assumes nothing.
 use borrow.Author.Needs.{needs}
 use mathlib.Core.Path.{sym, _∙_, ap}
-use native.Mathlib.Omega.{arith}
 use Rattle.text.specs.Line.{lineAt}
 use Rattle.text.specs.Answer.{pairMeaning}
 use Rattle.tagless_opening.specs.OpeningLaws.{open-short, open-malformed, open-other-length, open-counts}

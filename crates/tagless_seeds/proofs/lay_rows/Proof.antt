@@ -7,7 +7,7 @@ use lib.ListN.{length, getD, take, drop}
 use lib.Seq.{take-all}
 use borrow.Author.Needs.{needs}
 use Rattle.tagless_group.specs.Row.{rowOf}
-use Rattle.tagless_seeds.specs.Rows.{rowsUnder}
+use Rattle.tagless_seeds.specs.Rows.{rowsUnder, rowsInto}
 use Rattle.tagless_seeds.specs.RowsLaws.{rows-more}
 use Rattle.tagless_seeds.proofs.lay_rows.Statement.{statement}
 use Rattle.tagless_seeds.proofs.lay_rows.Tie as tie
@@ -36,6 +36,7 @@ loop-again c =
     )
 
 returns : tie.Need-returns Inv-loop μ-loop
+unfolding rowsInto
 returns c =
     let at = c .before in
     let a = at .before .before .before .args in

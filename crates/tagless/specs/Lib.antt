@@ -1,0 +1,4 @@
+pub mod Number
+pub mod Building
+pub mod BuildingLaws
+pub mod FromText

@@ -1,0 +1,3 @@
+pub mod Condition
+pub mod PromiseLaws
+pub mod PlaceLaws
