@@ -2,7 +2,7 @@
 use mathlib.Core.Path.{_≡_, refl, sym, _∙_, ap}
 use mathlib.Core.Bool.{Bool, true, false, not}
 use mathlib.Core.List.{List}
-use mathlib.Core.Option.{Option, none, some, Option·getD, Option·map}
+use mathlib.Core.Option.{Option, none, some, Option·getD}
 use Prim.Native.Nat.{ℕ, suc, _+_, _<_}
 use native.Mathlib.Omega.{arith}
 use native.Mathlib.Numerals.{add-one}
@@ -21,7 +21,7 @@ use Rattle.image.specs.Checking.{malformedIn}
 use Rattle.image.specs.FaultLaws.{end-next, end-last}
 use Rattle.checking.specs.Steps.{faultyAt}
 use Rattle.checking.specs.StepsLaws.{filled-none, filled-turn}
-use Rattle.tagless_image.specs.View.{statedAt, startAndSeed, taglessView}
+use Rattle.tagless_image.specs.View.{taglessView}
 use Rattle.tagless_image.specs.Checking.{taglessOpening, taglessChecks, taglessCheckingOf}
 use Rattle.tagless_opening.specs.Opening.{taglessOpeningOf, TaglessOpens}
 use Rattle.tagless_opening.specs.OpeningLaws.{opening-refused, opening-passes, opening-answered}
@@ -44,9 +44,9 @@ module _ (image : List ℕ) {count groups : ℕ} (opens : TaglessOpens image cou
   lines-start = first-out (malformedIn (taglessView image)) 1 (λ j lt. let z : j ≡ 0 = omega arith in rw z header-read)
 
   -- The line of group g, by what it reads as.
-  pub line-tested : (g : ℕ) → g < groups → {o : Option (ℕ × ℕ × ℕ)} → statedAt image (suc g) ≡ o
-      → malformedIn (taglessView image) (1 + g) ≡ not (isSome (Option·map startAndSeed o))
-  unfolding malformedIn taglessView
+  pub line-tested : (g : ℕ) → g < groups → {o : Option (ℕ × ℕ)} → taglessView image .groupAt (suc g) ≡ o
+      → malformedIn (taglessView image) (1 + g) ≡ not (isSome o)
+  unfolding malformedIn
   line-tested g below e =
       let own : g < groupsIn (taglessView image) = omega (arith, opens .groups-is) in
       let line : 1 + g ≡ suc g = omega arith in
@@ -60,10 +60,10 @@ module _ (image : List ℕ) {count groups : ℕ} (opens : TaglessOpens image cou
     end = getD-set-same starts groups count 0 (omega (arith, opens .groups-legal));
   }
 
-  pub starts-turn : (g : ℕ) {start seed word : ℕ} (starts : List ℕ) → g < groups → statedAt image (suc g) ≡ some (start, seed, word)
+  pub starts-turn : (g : ℕ) {start seed : ℕ} (starts : List ℕ) → g < groups → taglessView image .groupAt (suc g) ≡ some (start, seed)
       → StartsStored (taglessView image) count groups (1 + g) starts
       → StartsStored (taglessView image) count groups (1 + (g + 1)) (set starts g start)
-  unfolding startIn taglessView
+  unfolding startIn
   starts-turn g {start} starts below reads stored =
       let legal = opens .groups-legal in
       record {
@@ -72,7 +72,7 @@ module _ (image : List ℕ) {count groups : ℕ} (opens : TaglessOpens image cou
       }
     where
       own : startIn (taglessView image) g ≡ start
-      own = ap (λ (o : Option (ℕ × ℕ × ℕ)). (Option·getD (Option·map startAndSeed o) (0, 0)) .0) reads
+      own = ap (λ (o : Option (ℕ × ℕ)). (Option·getD o (0, 0)) .0) reads
 
   -- Where every line is read, the cells decide which group is faulty.
   pub faulty-cells : {starts : List ℕ} → StartsStored (taglessView image) count groups (1 + groups) starts

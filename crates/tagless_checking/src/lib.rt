@@ -4,7 +4,7 @@ use opening::Opened;
 use refusal::First;
 use refusal::Reason;
 use slots::START_CELLS;
-use word_line::GroupWord;
+use text::Pair;
 ghost use mathlib.Core.Path.{_≡_};
 ghost use Prim.Native.Nat.{_+_};
 ghost use lib.ListN.{length};
@@ -56,7 +56,7 @@ fn read_lines(image: &[u8], count: u32, groups: u32, starts: &mut [u32; START_CE
     starts[groups as usize] = count;
     let mut g: u32 = 0;
     while g < groups {
-        let GroupWord::Numbers(start, _, _) = tagless_opening::read_group(image, groups, g) else {
+        let Pair::Numbers(start, _) = tagless_opening::read_start_and_seed(image, groups, g) else {
             return First::At(1 + g as usize);
         };
         starts[g as usize] = start;

@@ -5,7 +5,7 @@ use mathlib.Core.List.{List}
 use mathlib.Core.Option.{Option, none, Option·getD, Option·map}
 use lib.ListN.{length, take, drop}
 use Rattle.text.specs.Line.{lineLength, lineAt, imageHeader}
-use Rattle.word_line.specs.WordLine.{wordLineLength, groupWordLine}
+use Rattle.word_line.specs.WordLine.{wordLineLength, groupWordLine, startAndSeed}
 use Rattle.image.specs.View.{View}
 
 -- The line of group g, or what there is of it: behind line 0, 21 bytes for each group.
@@ -16,9 +16,6 @@ groupLineAt g bytes = take wordLineLength (drop (lineLength + wordLineLength * g
 unfoldable pub statedAt : List ℕ → ℕ → Option (ℕ × ℕ × ℕ)
 statedAt bytes zero = none
 statedAt bytes (suc g) = groupWordLine (groupLineAt g bytes)
-
-abbrev pub startAndSeed : ℕ × ℕ × ℕ → ℕ × ℕ
-startAndSeed line = (line .0, line .1)
 
 -- The length, line 0, and line k as a group line: malformed if its word is. There are no slot lines.
 unfoldable pub taglessView : List ℕ → View

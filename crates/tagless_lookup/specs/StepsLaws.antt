@@ -19,7 +19,8 @@ use Rattle.lookup.specs.Steps.{endOf}
 use Rattle.lookup.specs.GroupLaws.{end-at-count, end-at-next, end-is, start-is, seed-is}
 use Rattle.lookup.specs.GroupLaws.{own-refused, next-refused, fault-refused, group-passes}
 use Rattle.tagless_group.specs.Words.{choiceBy}
-use Rattle.tagless_image.specs.View.{statedAt, startAndSeed, taglessView, wordIn}
+use Rattle.word_line.specs.WordLine.{startAndSeed}
+use Rattle.tagless_image.specs.View.{statedAt, taglessView, wordIn}
 use Rattle.tagless_image.specs.Checking.{taglessOpening}
 use Rattle.tagless_image.specs.Lookup.{taglessLookupChecks, numberBy, taglessInGroup, taglessLookupOf}
 use Rattle.tagless_image.specs.LookupLaws.{lookup-unwired, lookup-wired}
@@ -39,12 +40,12 @@ module _ (image : List ℕ) where
   end-of-last opens g last = rw (← opens .count-is) (end-at-count (taglessView image) g (omega (arith, opens .groups-is)))
 
   pub end-of-malformed : {count groups : ℕ} → TaglessOpens image count groups → (g : ℕ) → suc g < groups
-      → statedAt image (suc (suc g)) ≡ none → endOf (taglessView image) g ≡ none
-  end-of-malformed opens g lt e = end-at-next (taglessView image) g (omega (arith, opens .groups-is)) (line-in (suc (suc g)) e)
+      → taglessView image .groupAt (suc (suc g)) ≡ none → endOf (taglessView image) g ≡ none
+  end-of-malformed opens g lt = end-at-next (taglessView image) g (omega (arith, opens .groups-is))
 
   pub end-of-next : {count groups : ℕ} → TaglessOpens image count groups → (g : ℕ) → suc g < groups
-      → {start seed word : ℕ} → statedAt image (suc (suc g)) ≡ some (start, seed, word) → endOf (taglessView image) g ≡ some start
-  end-of-next opens g lt e = end-at-next (taglessView image) g (omega (arith, opens .groups-is)) (line-in (suc (suc g)) e)
+      → {start seed : ℕ} → taglessView image .groupAt (suc (suc g)) ≡ some (start, seed) → endOf (taglessView image) g ≡ some start
+  end-of-next opens g lt = end-at-next (taglessView image) g (omega (arith, opens .groups-is))
 
   -- The group's line, the next one, its fault, and its number.
   module _ (t g : ℕ) where

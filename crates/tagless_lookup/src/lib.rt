@@ -3,6 +3,7 @@ use lookup::GroupEnd;
 use lookup::LookupAnswer;
 use opening::Opened;
 use refusal::UNWIRED;
+use text::Pair;
 use word_line::GroupWord;
 ghost use mathlib.Core.Path.{_≡_};
 ghost use Prim.Native.Nat.{_≤_, _<_};
@@ -68,7 +69,7 @@ fn group_end(image: &[u8], count: u32, groups: u32, g: u32) -> GroupEnd
     if next == groups {
         return GroupEnd::At(count);
     }
-    let GroupWord::Numbers(start, _, _) = tagless_opening::read_group(image, groups, next) else {
+    let Pair::Numbers(start, _) = tagless_opening::read_start_and_seed(image, groups, next) else {
         return GroupEnd::Malformed;
     };
     GroupEnd::At(start)

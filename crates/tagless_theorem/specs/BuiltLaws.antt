@@ -22,7 +22,7 @@ use Rattle.filling.specs.Filling.{placeBy}
 use Rattle.filling.specs.Word.{choiceNumber}
 use Rattle.group.specs.Group.{bothPlaces}
 use Rattle.text.specs.Line.{lineLength}
-use Rattle.word_line.specs.WordLine.{wordLineLength}
+use Rattle.word_line.specs.WordLine.{wordLineLength, startAndSeed}
 use Rattle.image.specs.View.{View, countIn, groupsIn, startIn, seedIn, endIn, candidateIn}
 use Rattle.image.specs.Lookup.{number, unknown}
 use Rattle.image.specs.LinesRead.{ownGroup}
@@ -34,7 +34,7 @@ use Rattle.numbering.specs.Number.{choiceOf, placeIn, numberOf}
 use Rattle.tagless_group.specs.Words.{choiceBy, choicesBy}
 use Rattle.tagless_image.specs.Sheet.{TaglessSheet, taglessBytes, taglessLength}
 use Rattle.tagless_image.specs.SheetLaws.{tagless-length, header-reads, group-reads}
-use Rattle.tagless_image.specs.View.{statedAt, startAndSeed, taglessView, wordIn}
+use Rattle.tagless_image.specs.View.{statedAt, taglessView, wordIn}
 use Rattle.tagless_image.specs.Checking.{taglessOpening, taglessChecks, taglessCheckingOf}
 use Rattle.tagless_image.specs.Lookup.{numberBy, taglessLookupOf}
 use Rattle.tagless_image.specs.CheckedLaws.{Sound, pass-of-sound, sound-unwired, sound-empty, sound-number}

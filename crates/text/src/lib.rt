@@ -172,7 +172,7 @@ fn fields_in(line: &[u8]) -> Pair
 }
 
 // The one tag of a whole line: the number in its ten columns, if it fits 32 bits.
-fn tag_in(line: &[u8]) -> Tag
+pub fn tag_in(line: &[u8]) -> Tag
     requires { ⌜ length (now line) ≡ lineLength ⌝ }
     ensures answer { λ r. ⌜ tagMeaning r ≡ within (λ t. ltb t tagEnd) (tagOf (now (line .entry))) ⌝ }
 {

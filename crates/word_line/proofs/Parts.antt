@@ -1,5 +1,5 @@
 -- A group's line in a text: what it reads as, by its two fields and by what stands behind them. Assumes nothing.
-use mathlib.Core.Path.{_≡_, refl, sym}
+use mathlib.Core.Path.{_≡_, refl, sym, _∙_}
 use mathlib.Core.Bool.{Bool, true, false, cond, _&&_}
 use mathlib.Core.List.{List}
 use mathlib.Core.Option.{Option, none, some}
@@ -8,6 +8,7 @@ use native.Mathlib.Omega.{arith}
 use lib.Dec.{leb, ltb}
 use lib.ListN.{length, take, drop, length-take, length-drop}
 use lib.Seq.{take-add, drop-drop, length-take-le}
+use borrow.Author.Tests.{ltb-true, ltb-false}
 use Rattle.refusal.specs.Limits.{tagEnd, seedMax}
 use Rattle.text.specs.Field.{field}
 use Rattle.text.specs.Line.{lineLength, bothFields, within, slotLine}
@@ -62,3 +63,12 @@ module _ (bytes : List ℕ) (at : ℕ) where
         drop-drop 10 at bytes,
       )
       (within-parts _ _)
+
+  -- By the question whether it is cut off.
+  pub line-cut : ltb (length bytes) (at + wordLineLength) ≡ true → groupWordLine (take wordLineLength (drop at bytes)) ≡ none
+  line-cut cut = line-short (ltb-true (length bytes) (at + wordLineLength) cut)
+
+  pub line-read : ltb (length bytes) (at + wordLineLength) ≡ false → {pair : Option (ℕ × ℕ)}
+      → pair ≡ within (λ h. leb (h .1) seedMax) (bothFields (field 5 (take 5 (drop at bytes))) (field 5 (take 5 (drop (at + 5) bytes))))
+      → groupWordLine (take wordLineLength (drop at bytes)) ≡ andThird pair (slotLine (take lineLength (drop (at + 10) bytes)))
+  line-read whole read = line-parts (ltb-false (length bytes) (at + wordLineLength) whole) ∙ rw (sym read)

@@ -32,3 +32,7 @@ tripleOf line = andThird (bothFields (field 5 (take 5 line)) (field 5 (take 5 (d
 -- above 4,294,967,295". A start is bounded by its columns only.
 unfoldable pub groupWordLine : List ℕ → Option (ℕ × ℕ × ℕ)
 groupWordLine line = within (λ h. leb (h .1) seedMax && ltb (h .2) tagEnd) (tripleOf line)
+
+-- What a line states but for its word.
+abbrev pub startAndSeed : ℕ × ℕ × ℕ → ℕ × ℕ
+startAndSeed line = (line .0, line .1)

@@ -4,15 +4,15 @@ use borrow.Author.Needs.{needs}
 use mathlib.Core.Path.{_≡_, sym, _∙_, ap}
 use mathlib.Core.Bool.{not}
 use mathlib.Core.List.{List}
-use mathlib.Core.Option.{Option, Option·map}
+use mathlib.Core.Option.{Option}
 use Prim.Native.Nat.{ℕ, suc, _+_, _-_, _<_}
 use native.Mathlib.Omega.{arith}
 use Rattle.lists.specs.First.{isSome}
 use Rattle.lists.specs.SearchLaws.{Searched, searched-start, searched-turn, searched-found, searched-done}
-use Rattle.word_line.specs.Answer.{groupWordMeaning}
-use Rattle.word_line.specs.declared.GroupWord.{GroupWord}
+use Rattle.text.specs.Answer.{pairMeaning}
+use Rattle.text.specs.declared.Pair.{Pair}
 use Rattle.image.specs.Checking.{malformedIn}
-use Rattle.tagless_image.specs.View.{statedAt, startAndSeed, taglessView}
+use Rattle.tagless_image.specs.View.{taglessView}
 use Rattle.tagless_checking.specs.Steps.{StartsStored}
 use Rattle.tagless_checking.specs.StepsLaws.{lines-start, line-tested, starts-none, starts-turn}
 use Rattle.tagless_checking.proofs.read_lines.Statement.{statement}
@@ -31,7 +31,7 @@ abbrev μ-loop : tie.MeasureT-loop
 
 -- Where the line of group g is read.
 abbrev Line : Type 0
-Line = tie.After-read-group Inv-loop μ-loop
+Line = tie.After-read-start-and-seed Inv-loop μ-loop
 
 abbrev image : Line → List ℕ
 image c = c .before .before .before .before .args .image .now
@@ -42,11 +42,11 @@ groups c = c .before .before .before .before .args .groups
 abbrev g : Line → ℕ
 g c = c .before .before .loop .g
 
-states : (c : Line) {told : GroupWord} → c .read-group .result ≡ told → statedAt (image c) (suc (g c)) ≡ groupWordMeaning told
-states c e = sym (c .read-group .ensures) ∙ ap groupWordMeaning e
+states : (c : Line) {told : Pair} → c .read-start-and-seed .result ≡ told → taglessView (image c) .groupAt (suc (g c)) ≡ pairMeaning told
+states c e = sym (c .read-start-and-seed .ensures) ∙ ap pairMeaning e
 
-tested : (c : Line) {o : Option (ℕ × ℕ × ℕ)} → statedAt (image c) (suc (g c)) ≡ o
-    → malformedIn (taglessView (image c)) (1 + g c) ≡ not (isSome (Option·map startAndSeed o))
+tested : (c : Line) {o : Option (ℕ × ℕ)} → taglessView (image c) .groupAt (suc (g c)) ≡ o
+    → malformedIn (taglessView (image c)) (1 + g c) ≡ not (isSome o)
 tested c e = line-tested (image c) (c .before .before .before .before .pre .0) (g c) (c .before .loop-test .taken) e
 
 element-write-starts : tie.Need-element-write-starts Inv-loop μ-loop
@@ -62,8 +62,8 @@ loop-holds c =
       stored = starts-none (a .image .now) opens (a .starts .now) (start .pre .1);
     }
 
-read-group-requires : tie.Need-read-group-requires Inv-loop μ-loop
-read-group-requires c κs = (c .loop-test .taken, c .before .before .before .pre .0 .groups-legal)
+read-start-and-seed-requires : tie.Need-read-start-and-seed-requires Inv-loop μ-loop
+read-start-and-seed-requires c κs = (c .loop-test .taken, c .before .before .before .pre .0 .groups-legal)
 
 returns : tie.Need-returns Inv-loop μ-loop
 unfolding isSome
@@ -110,7 +110,7 @@ read-lines-spec =
     (λ c. search needs)  -- mul-starts
     element-write-starts
     loop-holds
-    read-group-requires
+    read-start-and-seed-requires
     (λ c. search needs)  -- enum-known-start
     (λ c. search needs)  -- enum-told
     (λ c. search needs)  -- cast-t13

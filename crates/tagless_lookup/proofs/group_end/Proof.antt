@@ -4,7 +4,7 @@ use borrow.Author.Needs.{needs}
 use mathlib.Core.Path.{sym, _∙_, ap}
 use native.Mathlib.Omega.{arith}
 use native.Mathlib.Numerals.{add-one}
-use Rattle.word_line.specs.Answer.{groupWordMeaning}
+use Rattle.text.specs.Answer.{pairMeaning}
 use Rattle.tagless_lookup.specs.StepsLaws.{end-of-last, end-of-malformed, end-of-next}
 use Rattle.tagless_lookup.proofs.group_end.Statement.{statement}
 use Rattle.tagless_lookup.proofs.group_end.Tie as tie
@@ -20,7 +20,7 @@ returns-2 c =
     let start = read .before .before .before in
     let image = start .args .image .now in
     sym (end-of-malformed image (start .pre .0) (start .args .g) (omega (arith, read .before .if1 .left, start .pre .1))
-    (rw add-one at (sym (read .read-group .ensures) ∙ ap groupWordMeaning (c .enum-told .given .1))))
+    (rw add-one at (sym (read .read-start-and-seed .ensures) ∙ ap pairMeaning (c .enum-told .given .1))))
 
 returns-3 : tie.Need-returns-3
 returns-3 c =
@@ -28,7 +28,7 @@ returns-3 c =
     let start = read .before .before .before in
     let image = start .args .image .now in
     sym (end-of-next image (start .pre .0) (start .args .g) (omega (arith, read .before .if1 .left, start .pre .1))
-    (rw add-one at (sym (read .read-group .ensures) ∙ ap groupWordMeaning (c .before .start .given .1))))
+    (rw add-one at (sym (read .read-start-and-seed .ensures) ∙ ap pairMeaning (c .before .start .given .1))))
 
 pub group-end-spec : {M : Type 1} → statement M
 group-end-spec =
@@ -36,7 +36,7 @@ group-end-spec =
     (tie.spec
     (λ c. search needs)  -- add-next
     returns
-    (λ c κs. search needs)  -- read-group-requires
+    (λ c κs. search needs)  -- read-start-and-seed-requires
     (λ c. search needs)  -- enum-known-start
     (λ c. search needs)  -- enum-told
     returns-2
