@@ -1,10 +1,11 @@
-// Runs cases of an index without tags: images built byte by byte, with what checking and lookup say of them, each refusal and which of
-// two comes first; and checking and lookup on small images, whole and damaged.
+// Runs cases of building an index without tags: each refusal and which of two comes first, and images byte by byte, with what checking
+// and lookup say of them.
 use building::BuildAnswer;
 use checking::CheckAnswer;
 use lookup::LookupAnswer;
 
 fn look_up(image: &[u8], tag: u32) {
+    report::words(b"  ");
     report::number(tag as u64);
     report::words(b": ");
     match tagless_lookup::tagless_lookup(image, tag) {
@@ -16,6 +17,7 @@ fn look_up(image: &[u8], tag: u32) {
 }
 
 fn check(image: &[u8]) {
+    report::words(b"  ");
     match tagless_checking::tagless_check(image) {
         CheckAnswer::Accepted => report::words(b"accepted"),
         CheckAnswer::Refused(refusal) => report::refusal(refusal),
@@ -26,7 +28,6 @@ fn check(image: &[u8]) {
 fn look_up_each(image: &[u8], tags: &[u32]) {
     let mut i = 0;
     while i < tags.len() {
-        report::words(b"  ");
         look_up(image, tags[i]);
         i += 1;
     }
@@ -46,10 +47,10 @@ fn show(buffer: &[u8], size: usize, tags: &[u32]) {
         return;
     }
     let image = &buffer[..size];
-    report::words(b"  ");
     check(image);
     look_up_each(image, tags);
-    look_up_each(image, &[0, 77]);
+    look_up(image, 0);
+    look_up(image, 77);
 }
 
 // Prints what building answers for the buffer's first `room` bytes, and how many bytes it wrote.
@@ -87,24 +88,6 @@ fn build(tags: &[u32], groups: u32, limit: u32, room: usize) {
     show(&buffer, size, tags);
 }
 
-// Prints a lookup of a tag in a small image.
-fn ask(image: &[u8], tag: u32) {
-    report::words(b"  lookup of ");
-    look_up(image, tag);
-}
-
-// Prints the case's name, what checking says of the image, and lookups of the tags 0 to 4 in it.
-fn image(name: &[u8], image: &[u8]) {
-    report::words(name);
-    report::words(b": ");
-    check(image);
-    ask(image, 0);
-    ask(image, 1);
-    ask(image, 2);
-    ask(image, 3);
-    ask(image, 4);
-}
-
 // The whole case of document 01, without tags: a buffer that is too short by one byte, exact, and longer.
 fn whole_case() {
     build(&[1, 2, 3], 2, 9, 52);
@@ -112,14 +95,18 @@ fn whole_case() {
     build(&[1, 2, 3], 2, 9, 60);
 }
 
-// Empty lists, equal places, tags at both ends, several groups with seeds and words of their own.
-fn images() {
+// Empty lists, one tag, two.
+fn small_lists() {
     build(&[], 1, 1, 32);
     build(&[], 3, 65536, 80);
     build(&[7], 1, 1, 32);
     build(&[1, 2], 1, 1, 32);
     build(&[1, 3], 1, 2, 32);
     build(&[1, 3], 2, 9, 53);
+}
+
+// Equal places, tags at both ends, several groups with seeds and words of their own.
+fn longer_lists() {
     build(&[13, 2147483648], 1, 1, 32);
     build(&[599, 1193], 1, 1, 32);
     build(&[13, 57, 61], 1, 9, 32);
@@ -139,12 +126,16 @@ fn images() {
     );
 }
 
-// Seeds that serve and have no word; multiples of 2^29, 2^28 and 2^26, whose rows leave bits of the word without effect; 32 tags.
-fn seeds_and_words() {
+// Seeds that serve and have no word: the search goes on, or 7 comes where placing would find a seed.
+fn served_without_a_word() {
     build(&[19, 24, 43], 1, 1, 32);
     build(&[19, 24, 43], 1, 2, 32);
     build(&[19, 24, 43], 1, 3, 32);
     build(&[1073741824, 2147483648, 2684354560, 3758096384], 1, 9, 32);
+}
+
+// Multiples of 2^29, 2^28 and 2^26, whose rows leave bits of the word without effect.
+fn multiples() {
     build(&[536870912, 1073741824, 1610612736, 2147483648], 1, 1, 32);
     build(
         &[
@@ -191,7 +182,11 @@ fn seeds_and_words() {
         3,
         32,
     );
-    let close = [
+}
+
+// 32 tags: seeds 0 and 1 have no word, seed 2 has one.
+fn as_many_as_a_group_holds() {
+    let tags = [
         3u32,
         5,
         8,
@@ -225,12 +220,12 @@ fn seeds_and_words() {
         262,
         266,
     ];
-    build(&close, 1, 2, 32);
-    build(&close, 1, 3, 32);
+    build(&tags, 1, 2, 32);
+    build(&tags, 1, 3, 32);
 }
 
-// Each refusal, and which of two comes first: 8, 4, 5, 6, 17, 9, 10, 7.
-fn refusals() {
+// 8, 4 and 6, and which of two comes first.
+fn arguments() {
     build(&[1, 2, 3], 0, 9, 53);
     build(&[1, 2, 3], 513, 9, 1200);
     build(&[1, 2, 3], 4294967295, 0, 53);
@@ -239,12 +234,16 @@ fn refusals() {
     build(&[3, 2, 1], 2, 0, 0);
     build(&[1, 2, 2], 2, 9, 53);
     build(&[1, 2, 3, 0], 2, 9, 0);
+}
+
+// 17: behind 6, before 9.
+fn unwired() {
     build(&[0], 1, 1, 32);
     build(&[0, 1, 3], 1, 1, 31);
     build(&[0, 0], 1, 1, 32);
 }
 
-// 33 tags in one group: 17 before 9 and 10, and 9 before 10 and 7.
+// 33 tags in one group: 17 before 10; and 9 before 7 and 10.
 fn sizes() {
     let tags = [
         0u32,
@@ -289,8 +288,8 @@ fn sizes() {
     build(&tags[1..], 1, 1, 32);
 }
 
-// 10 at group 1 before 7 at group 0; 7 at the lowest group without a word.
-fn groups() {
+// 33 tags in group 1, beside a group 0 that seed 0 does not serve: 10 before 7.
+fn one_large_group() {
     let tags = [
         1u32,
         3,
@@ -330,6 +329,10 @@ fn groups() {
     ];
     build(&tags, 2, 1, 53);
     build(&tags[..20], 2, 1, 53);
+}
+
+// 7 at the lowest group without a word.
+fn no_seed() {
     build(
         &[536870912, 1073741824, 1610612736, 2684354560, 3758096384],
         1,
@@ -341,135 +344,16 @@ fn groups() {
     build(&[17, 23, 34, 40, 42, 45, 48, 51, 57], 3, 2, 74);
 }
 
-// Images that are accepted, among them seeds and words that building would not take.
-fn accepted() {
-    image(
-        b"whole case",
-        b"    3    2\n    0    0         0\n    1    1         1\n",
-    );
-    image(
-        b"another word",
-        b"    3    2\n    0    0         0\n    1    14294967295\n",
-    );
-    image(
-        b"the last seed",
-        b"    3    2\n    0    0         0\n    165535  12345678\n",
-    );
-    image(b"empty list", b"    0    1\n    0    0         0\n");
-    image(
-        b"empty groups with seeds and words",
-        b"    0    2\n    0    5         9\n    0655354294967295\n",
-    );
-    image(b"group of 32", b"   32    1\n    0   141234567890\n");
-}
-
-// 11 and 12, and which comes first; a line is malformed if its word is.
-fn lines() {
-    image(b"no bytes", b"");
-    image(b"ten bytes", b"    3    2");
-    image(
-        b"header with B = 0",
-        b"    3    0\n    0    0         0\n    1    1         1\n",
-    );
-    image(
-        b"header with N = 4097",
-        b" 4097    2\n    0    0         0\n    1    1         1\n",
-    );
-    image(
-        b"one byte short",
-        b"    3    2\n    0    0         0\n    1    1         1",
-    );
-    image(
-        b"one line more",
-        b"    3    2\n    0    0         0\n    1    1         1\n    3    0         0\n",
-    );
-    image(
-        b"an image with tags",
-        b"    3    2\n    0    0\n    1    1\n         2\n         1\n         3\n",
-    );
-    image(
-        b"own line malformed",
-        b"    3    2\n    0   00         0\n    1    1         1\n",
-    );
-    image(
-        b"next line malformed",
-        b"    3    2\n    0    0         0\n    1              1\n",
-    );
-    image(
-        b"word 4294967296",
-        b"    3    2\n    0    04294967296\n    1    1         1\n",
-    );
-    image(
-        b"next word 4294967296",
-        b"    3    2\n    0    0         0\n    1    14294967296\n",
-    );
-    image(
-        b"next word 9999999999",
-        b"    3    2\n    0    0         0\n    1    19999999999\n",
-    );
-    image(
-        b"blank word",
-        b"    3    2\n    0    0         0\n    1    1          \n",
-    );
-    image(
-        b"word with a needless zero",
-        b"    3    2\n    0    0        00\n    1    1         1\n",
-    );
-    image(
-        b"seed 65536",
-        b"    3    2\n    0    0         0\n    165536         1\n",
-    );
-    image(
-        b"two lines malformed",
-        b"    3    2\n    0    0         x\n    1    1         1\r",
-    );
-}
-
-// 13: the first group, a start that falls, a group too large, an end past N; and empty groups.
-fn faulty_groups() {
-    image(
-        b"first start 1",
-        b"    3    2\n    1    0         0\n    1    1         1\n",
-    );
-    image(
-        b"start past N",
-        b"    3    2\n    0    0         0\n    4    1         1\n",
-    );
-    image(
-        b"start 99999",
-        b"    3    2\n    0    0         0\n99999    1         1\n",
-    );
-    image(
-        b"starts that fall",
-        b"    3    3\n    0    0         0\n    3    1         1\n    2    0         0\n",
-    );
-    image(b"group of 33", b"   33    1\n    0    0         0\n");
-    image(
-        b"malformed behind a faulty group",
-        b"    3    2\n    1    0         0\n    1    14294967296\n",
-    );
-    image(
-        b"starts moved",
-        b"    3    2\n    0    0         0\n    2    1         1\n",
-    );
-    image(
-        b"first group empty",
-        b"    3    2\n    0    0         0\n    0    1         1\n",
-    );
-    image(
-        b"last group empty",
-        b"    3    2\n    0    0         0\n    3    1         1\n",
-    );
-}
-
 fn main() {
     whole_case();
-    images();
-    seeds_and_words();
-    refusals();
+    small_lists();
+    longer_lists();
+    served_without_a_word();
+    multiples();
+    as_many_as_a_group_holds();
+    arguments();
+    unwired();
     sizes();
-    groups();
-    accepted();
-    lines();
-    faulty_groups();
+    one_large_group();
+    no_seed();
 }

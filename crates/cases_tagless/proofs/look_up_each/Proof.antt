@@ -6,10 +6,10 @@ use Rattle.cases_tagless.proofs.look_up_each.Statement.{statement}
 use Rattle.cases_tagless.proofs.look_up_each.Tie as tie
 
 abbrev Inv-loop : tie.InvT-loop
-Inv-loop image tags i₀ t4 i = i ≤ length tags
+Inv-loop image tags i₀ i = i ≤ length tags
 
 abbrev μ-loop : tie.MeasureT-loop
-μ-loop image tags i₀ t4 i = length tags - i
+μ-loop image tags i₀ i = length tags - i
 
 pub look-up-each-spec : {M : Type 1} → statement M
 look-up-each-spec =
@@ -18,8 +18,6 @@ look-up-each-spec =
     Inv-loop
     μ-loop
     (λ c. search needs)  -- loop-holds
-    (λ c. search needs)  -- slice-aggregate-words
-    (λ c κs. search needs)  -- words-requires
     (λ c. search needs)  -- mul-look-up
     (λ c. search needs)  -- shared-slice-read-look-up
     (λ c κs. search needs)  -- look-up-requires

@@ -26,10 +26,8 @@ show-spec =
     (λ c κs. search needs)  -- words-requires-2
     (λ c. search needs)  -- returns-3
     slice-aggregate-image
-    (λ c. search needs)  -- slice-aggregate-words-3
-    (λ c κs. search needs)  -- words-requires-3
     (λ c κs. search needs)  -- check-requires
     (λ c κs. search needs)  -- look-up-each-requires
-    (λ c. search needs)  -- slice-aggregate-look-up-each
-    (λ c κs. search needs)  -- look-up-each-requires-2
+    (λ c κs. search needs)  -- look-up-requires
+    (λ c κs. search needs)  -- look-up-requires-2
     (λ c. search needs))  -- returns-4
