@@ -2,3 +2,4 @@ pub mod Number
 pub mod Building
 pub mod BuildingLaws
 pub mod FromText
+pub mod Examples

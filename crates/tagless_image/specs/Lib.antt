@@ -6,3 +6,4 @@ pub mod Lookup
 pub mod LinesRead
 pub mod LookupLaws
 pub mod CheckedLaws
+pub mod Examples

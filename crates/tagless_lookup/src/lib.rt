@@ -1,4 +1,6 @@
 // Lookup in an index without tags: the number of a tag, for any bytes and any tag.
+mod worked;
+
 use lookup::GroupEnd;
 use lookup::LookupAnswer;
 use opening::Opened;
