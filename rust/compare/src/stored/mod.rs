@@ -1,8 +1,8 @@
 //! The stored outputs of the program crates, printed again from the model.
 //!
 //! A program crate `crates/cases_X` runs chosen cases of the proved code, and its file `stdout`
-//! is what it must write. Here one file a program runs the same cases on the model and writes
-//! them in the same form. A program that has no file here is a fault: a new one takes a file and a
+//! is what it must write. Here a function for each program runs the same cases on the model and writes
+//! them in the same form. A program that has none here is a fault: a new one takes a function and a
 //! row of `PROGRAMS`.
 
 mod boundary;
@@ -32,7 +32,8 @@ const PROGRAMS: &[Program] = &[
     ("cases_planning", planning::write),
     ("cases_building", building::write),
     ("cases_image", image::write),
-    ("cases_tagless", tagless::write),
+    ("cases_tagless", tagless::built),
+    ("cases_tagless_image", tagless::images),
     ("cases_list", list::write),
     ("cases_long", long::write),
     ("cases_printing", printing::write),

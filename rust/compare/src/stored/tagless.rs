@@ -1,5 +1,6 @@
 //! The cases of `cases_tagless`: images without tags built byte by byte, with what checking and lookup
-//! say of them, each refusal and which of two comes first; and small images, whole and damaged.
+//! say of them, each refusal and which of two comes first; and those of `cases_tagless_image`: small
+//! images, whole and damaged.
 
 use model::tagless;
 use model::Found;
@@ -11,12 +12,8 @@ use crate::tagless::{CLOSE_32_WITH_A_WORD, ROWS_THAT_CANCEL_OUT, SERVED_WITHOUT_
 /// What the buffer holds before building.
 const SIZE: usize = 1_200;
 
-pub fn write(output: &mut Output) {
-    built(output);
-    images(output);
-}
-
-fn built(output: &mut Output) {
+/// What `cases_tagless` writes.
+pub fn built(output: &mut Output) {
     // 33 tags in one group; 33 in group 1, beside a group 0 that seed 0 does not serve.
     let from_1: Vec<u32> = (1..=33).collect();
     let from_0: Vec<u32> = (0..33).collect();
@@ -139,7 +136,8 @@ fn look_up(output: &mut Output, image: &[u8], tag: u32) {
     output.words("\n");
 }
 
-fn images(output: &mut Output) {
+/// What `cases_tagless_image` writes.
+pub fn images(output: &mut Output) {
     let cases = [
         (
             "whole case",
