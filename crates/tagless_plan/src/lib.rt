@@ -1,4 +1,6 @@
 // The seeds and words of all groups of an index without tags, found before anything is written.
+mod worked;
+
 use refusal::First;
 use refusal::GROUP_CELLS;
 use tagless_seeds::WordedSeed;

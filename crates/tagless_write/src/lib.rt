@@ -1,4 +1,6 @@
 // The index without tags that arrays state: line 0, and a line for each group.
+mod worked;
+
 use text::LINE_LENGTH;
 use word_line::WORD_LINE_LENGTH;
 ghost use mathlib.Core.Path.{_≡_};
