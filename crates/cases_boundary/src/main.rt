@@ -1,4 +1,4 @@
-// Runs the six functions of the C boundary: the whole case of document 01, and refusals of each operation. Each answer is printed
+// Runs the nine functions of the C boundary: the whole case of document 01, and refusals of each operation. Each answer is printed
 // as the number that C gets.
 
 // Prints the case's name and an answer.
@@ -68,6 +68,27 @@ fn image(name: &[u8], image: &[u8]) {
     answer(b"  lookup of 2", tag_index::tag_index_lookup(image, 2));
     answer(b"  lookup of 3", tag_index::tag_index_lookup(image, 3));
     answer(b"  lookup of 4", tag_index::tag_index_lookup(image, 4));
+}
+
+// Builds an index without tags from a text into a buffer of 77 bytes, and prints the answer and the buffer.
+fn tagless_build(name: &[u8], text: &[u8]) {
+    let mut image = [b'.'; 77];
+    answer(name, tag_index::tag_index_tagless_build(text, &mut image));
+    report::words(&image);
+    report::words(b"\n");
+}
+
+// Prints what a lookup in an index without tags answers.
+fn tagless_lookup(name: &[u8], image: &[u8], tag: u32) {
+    answer(name, tag_index::tag_index_tagless_lookup(image, tag));
+}
+
+// Prints what checking an index without tags answers, and lookups of the tags 0, 1 and 2.
+fn tagless_image(name: &[u8], image: &[u8]) {
+    answer(name, tag_index::tag_index_tagless_check(image));
+    tagless_lookup(b"  lookup of 0", image, 0);
+    tagless_lookup(b"  lookup of 1", image, 1);
+    tagless_lookup(b"  lookup of 2", image, 2);
 }
 
 // The whole case, and each refusal of building from a text that fits a line of this file.
@@ -305,6 +326,50 @@ fn groups() {
     place(b"a seed above 0 with L = 1", &[1, 3], 1);
 }
 
+// The whole case without tags, and refusals of reading and of building.
+fn tagless_building() {
+    tagless_build(
+        b"whole case without tags",
+        b"    2    9\n         1\n         2\n         3\n",
+    );
+    tagless_build(
+        b"without tags, line 2 malformed",
+        b"    2    9\n         1\n        02\n         3\n",
+    );
+    tagless_build(
+        b"without tags, buffer of 77 for an image of 95 bytes",
+        b"    4    9\n         1\n         2\n         3\n",
+    );
+    tagless_build(
+        b"without tags, a seed above 0 with L = 1",
+        b"    2    1\n         1\n         2\n         3\n",
+    );
+}
+
+// The index of the whole case, and damaged ones: 11, 12 and 13.
+fn tagless_images() {
+    tagless_image(
+        b"whole image without tags",
+        b"    3    2\n    0    0         0\n    1    1         1\n",
+    );
+    tagless_image(
+        b"without tags, last line missing",
+        b"    3    2\n    0    0         0\n",
+    );
+    tagless_image(
+        b"without tags, word 4294967296 in line 2",
+        b"    3    2\n    0    0         0\n    1    14294967296\n",
+    );
+    tagless_image(
+        b"without tags, start past N",
+        b"    3    2\n    0    0         0\n    4    1         1\n",
+    );
+    tagless_image(
+        b"without tags, last group empty",
+        b"    3    2\n    0    0         0\n    3    1         1\n",
+    );
+}
+
 fn main() {
     building();
     plans();
@@ -312,4 +377,6 @@ fn main() {
     long_texts();
     images();
     groups();
+    tagless_building();
+    tagless_images();
 }

@@ -1,3 +1,4 @@
 pub mod Arrays
 pub mod ArraysLaws
 pub mod PromiseLaws
+pub mod WrittenChecked

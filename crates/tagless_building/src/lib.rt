@@ -1,4 +1,6 @@
 // Building an index without tags, in one call.
+mod worked;
+
 use building::BuildAnswer;
 use refusal::First;
 use refusal::Reason;
@@ -20,7 +22,8 @@ ghost use Rattle.tagless_building.specs.Arrays.{Admitted, Orderly};
 // The operation "building" for an index without tags, for any list, any B and L, and any buffer.
 pub fn tagless_build(tags: &[u32], groups: u32, limit: u32, buffer: &mut [u8]) -> BuildAnswer
     ensures answer { λ r. ⌜ buildOutcome r ≡ taglessBuildingOf (now (tags .entry)) groups limit (length (now (buffer .entry))) ⌝ }
-    ensures bytes { λ _. ⌜ now (buffer .exit) ≡ taglessAfter (now (tags .entry)) groups limit (now (buffer .entry)) ⌝ }
+    ensures bytes { λ _. ⌜ now (buffer .exit)
+        ≡ taglessAfter (now (tags .entry)) groups limit (now (buffer .entry)) ⌝ }
     ensures condition { λ r. ⌜ TaglessCondition (now (tags .entry)) groups limit (length (now (buffer .entry))) (buildOutcome r)
         (now (buffer .exit)) ⌝ }
 {
