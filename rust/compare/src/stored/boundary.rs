@@ -1,4 +1,4 @@
-//! The cases of `cases_boundary`: the 64-bit answers of the six functions, for the whole case and for
+//! The cases of `cases_boundary`: the 64-bit answers of the nine functions, for the whole case and for
 //! refusals of each.
 
 use super::Output;
@@ -40,6 +40,8 @@ pub fn write(output: &mut Output) {
     long_texts(output);
     images(output);
     groups(output);
+    tagless_builds(output);
+    tagless_images(output);
 }
 
 /// Plans into cells that all hold 9.
@@ -206,5 +208,62 @@ fn groups(output: &mut Output) {
         let mut word = [77];
         let answer = model::answer_place(tags, limit, &mut word);
         output.words(format!("{name}: {answer}\n  cell {}\n", word[0]));
+    }
+}
+
+fn tagless_builds(output: &mut Output) {
+    let texts: [(&str, &[u8]); 4] = [
+        ("whole case without tags", WHOLE_CASE),
+        (
+            "without tags, line 2 malformed",
+            b"    2    9\n         1\n        02\n         3\n",
+        ),
+        (
+            "without tags, buffer of 77 for an image of 95 bytes",
+            b"    4    9\n         1\n         2\n         3\n",
+        ),
+        (
+            "without tags, a seed above 0 with L = 1",
+            b"    2    1\n         1\n         2\n         3\n",
+        ),
+    ];
+    for (name, text) in texts {
+        let mut image = [b'.'; 77];
+        let answer = model::answer_tagless_build(text, &mut image);
+        output.words(format!("{name}: {answer}\n"));
+        output.words(image);
+        output.words("\n");
+    }
+}
+
+fn tagless_images(output: &mut Output) {
+    let images: [(&str, &[u8]); 5] = [
+        (
+            "whole image without tags",
+            b"    3    2\n    0    0         0\n    1    1         1\n",
+        ),
+        (
+            "without tags, last line missing",
+            b"    3    2\n    0    0         0\n",
+        ),
+        (
+            "without tags, word 4294967296 in line 2",
+            b"    3    2\n    0    0         0\n    1    14294967296\n",
+        ),
+        (
+            "without tags, start past N",
+            b"    3    2\n    0    0         0\n    4    1         1\n",
+        ),
+        (
+            "without tags, last group empty",
+            b"    3    2\n    0    0         0\n    3    1         1\n",
+        ),
+    ];
+    for (name, image) in images {
+        output.words(format!("{name}: {}\n", model::answer_tagless_check(image)));
+        for tag in 0..=2 {
+            let answer = model::answer_tagless_lookup(image, tag);
+            output.words(format!("  lookup of {tag}: {answer}\n"));
+        }
     }
 }
