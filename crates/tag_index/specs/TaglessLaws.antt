@@ -121,7 +121,7 @@ lookup-numbered image t =
     (numbered-cond (eqb (startIn v g) (endIn v g)) (answered unknown) (answered (number (numberBy v (wordIn image g) g t))) tt tt))
 
 -- A view of bytes has at most 4,096 numbers.
-count-most : (image : List ℕ) → countIn (taglessView image) ≤ tagsMax
+pub count-most : (image : List ℕ) → countIn (taglessView image) ≤ tagsMax
 unfolding countIn taglessView
 count-most image = go (imageHeader (lineAt 0 image)) refl
   where

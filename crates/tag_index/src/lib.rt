@@ -1,5 +1,7 @@
 // The C boundary: operations as functions that C and Rust link, each with one 64-bit answer. A slice is passed as a pointer and a
 // length, a reference to an array as a pointer.
+mod worked;
+
 use building::BuildAnswer;
 use checking::CheckAnswer;
 use lookup::LookupAnswer;

@@ -22,8 +22,7 @@ ghost use Rattle.tagless_building.specs.Arrays.{Admitted, Orderly};
 // The operation "building" for an index without tags, for any list, any B and L, and any buffer.
 pub fn tagless_build(tags: &[u32], groups: u32, limit: u32, buffer: &mut [u8]) -> BuildAnswer
     ensures answer { λ r. ⌜ buildOutcome r ≡ taglessBuildingOf (now (tags .entry)) groups limit (length (now (buffer .entry))) ⌝ }
-    ensures bytes { λ _. ⌜ now (buffer .exit)
-        ≡ taglessAfter (now (tags .entry)) groups limit (now (buffer .entry)) ⌝ }
+    ensures bytes { λ _. ⌜ now (buffer .exit) ≡ taglessAfter (now (tags .entry)) groups limit (now (buffer .entry)) ⌝ }
     ensures condition { λ r. ⌜ TaglessCondition (now (tags .entry)) groups limit (length (now (buffer .entry))) (buildOutcome r)
         (now (buffer .exit)) ⌝ }
 {
@@ -67,7 +66,8 @@ fn image_length(groups: u32) -> usize
 fn build_admitted(tags: &[u32], groups: u32, limit: u32, buffer: &mut [u8]) -> BuildAnswer
     requires { ⌜ Admitted (now tags) groups limit (length (now buffer)) ⌝ }
     ensures answer { λ r. ⌜ buildOutcome r ≡ taglessBuildingOf (now (tags .entry)) groups limit (length (now (buffer .entry))) ⌝ }
-    ensures bytes { λ _. ⌜ now (buffer .exit) ≡ taglessAfter (now (tags .entry)) groups limit (now (buffer .entry)) ⌝ }
+    ensures bytes { λ _. ⌜ now (buffer .exit)
+        ≡ taglessAfter (now (tags .entry)) groups limit (now (buffer .entry)) ⌝ }
 {
     let mut ends = [0usize; refusal::GROUP_CELLS];
     let mut ordered = [0u32; refusal::TAG_CELLS];
@@ -89,7 +89,8 @@ fn build_ordered(
 ) -> BuildAnswer
     requires { ⌜ Orderly (now tags) groups limit (now ordered) (now ends) (length (now buffer)) ⌝ }
     ensures answer { λ r. ⌜ buildOutcome r ≡ taglessBuildingOf (now (tags .entry)) groups limit (length (now (buffer .entry))) ⌝ }
-    ensures bytes { λ _. ⌜ now (buffer .exit) ≡ taglessAfter (now (tags .entry)) groups limit (now (buffer .entry)) ⌝ }
+    ensures bytes { λ _. ⌜ now (buffer .exit)
+        ≡ taglessAfter (now (tags .entry)) groups limit (now (buffer .entry)) ⌝ }
 {
     let mut seeds = [0; 512];
     let mut words = [0; 512];

@@ -1,4 +1,6 @@
 // Building an index without tags from a list text: the text's list is read, and handed on.
+mod worked;
+
 use building::BuildAnswer;
 use list::ListAnswer;
 ghost use mathlib.Core.Path.{_≡_};

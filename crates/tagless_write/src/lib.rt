@@ -23,8 +23,8 @@ pub fn write_lines(
     buffer: &mut [u8],
 )
     requires { ⌜ Writable (now ends) (now seeds) (now words) groups count (length (now buffer)) ⌝ }
-    ensures bytes { λ _. ⌜ now (buffer .exit)
-        ≡ taglessBytes (statedSheet (now (ends .entry)) (now (seeds .entry)) (now (words .entry)) groups count)
+    ensures bytes { λ _. ⌜ now (buffer .exit) ≡ taglessBytes
+        (statedSheet (now (ends .entry)) (now (seeds .entry)) (now (words .entry)) groups count)
         ++ drop (taglessLength groups) (now (buffer .entry)) ⌝ }
 {
     text::write_pair_line(buffer, 0, count as u32, groups as u32);
