@@ -12,7 +12,7 @@ use Rattle.refusal.specs.Outcome.{Outcome, answered, refused}
 use Rattle.text.specs.Line.{lineAt, pairLine}
 use Rattle.lists.specs.Occurs.{occurs}
 use Rattle.filling.specs.Filling.{Fills}
-use Rattle.filling.specs.Least.{NotAfter}
+use Rattle.filling.specs.Order.{NotAfter}
 use Rattle.group.specs.Group.{groupUnder}
 use Rattle.image.specs.Lookup.{number, unknown, lookupOf}
 use Rattle.numbering.specs.Members.{members, startOf}

@@ -18,7 +18,7 @@ use Rattle.text.specs.Line.{lineAt, pairLine}
 use Rattle.hash.specs.Formula.{groupOf}
 use Rattle.lists.specs.Occurs.{occurs}
 use Rattle.filling.specs.Filling.{Fills}
-use Rattle.filling.specs.Least.{NotAfter}
+use Rattle.filling.specs.Order.{NotAfter}
 use Rattle.group.specs.Group.{groupUnder, leastSeed}
 use Rattle.group.specs.GroupLaws.{leastSeed-some, leastSeed-none}
 use Rattle.image.specs.Lookup.{number, unknown, lookupOf}

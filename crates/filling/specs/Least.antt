@@ -8,15 +8,6 @@ use Rattle.lists.specs.First.{isSome}
 use Rattle.lists.specs.Occurs.{occurs}
 use Rattle.filling.specs.Filling.{Key, placeBy}
 
--- "compared from the lowest tag on, 0 before 1": the order of choice sequences of one length.
-unfoldable pub NotAfter : List Bool → List Bool → Type 0
-NotAfter [] ds = Unit {0}
-NotAfter (c ∷ cs) [] = ⊥
-NotAfter (false ∷ cs) (false ∷ ds) = NotAfter cs ds
-NotAfter (false ∷ cs) (true ∷ ds) = Unit {0}
-NotAfter (true ∷ cs) (false ∷ ds) = ⊥
-NotAfter (true ∷ cs) (true ∷ ds) = NotAfter cs ds
-
 -- The sequences that begin with a choice: none where its place is used already.
 unfoldable pub beginning : Bool → Key → List ℕ → Option (List Bool) → Option (List Bool)
 beginning choice key used rest =

@@ -13,18 +13,19 @@ use Rattle.lists.specs.Occurs.{occurs, distinct}
 use Rattle.lists.specs.OccursLaws.{occurs-here, occurs-there, occurs-cases, occurs-not, absent-cons, absent-tail, distinct-head}
 use Rattle.lists.specs.OccursLaws.{distinct-tail, distinct-cons}
 use Rattle.filling.specs.Filling.{Key, placeBy, chosen, Fills}
-use Rattle.filling.specs.Least.{NotAfter, beginning, leastFrom, least, feasible}
+use Rattle.filling.specs.Order.{LowestDecides}
+use Rattle.filling.specs.Least.{beginning, leastFrom, least, feasible}
 
 -- Two of which neither comes after the other are one.
-pub notAfter-antisym : (cs ds : List Bool) → NotAfter cs ds → NotAfter ds cs → cs ≡ ds
-unfolding NotAfter
-notAfter-antisym [] [] p q = refl
-notAfter-antisym [] (d ∷ ds) p q = absurd q
-notAfter-antisym (c ∷ cs) [] p q = absurd p
-notAfter-antisym (false ∷ cs) (false ∷ ds) p q = rw (notAfter-antisym cs ds p q)
-notAfter-antisym (false ∷ cs) (true ∷ ds) p q = absurd q
-notAfter-antisym (true ∷ cs) (false ∷ ds) p q = absurd p
-notAfter-antisym (true ∷ cs) (true ∷ ds) p q = rw (notAfter-antisym cs ds p q)
+pub lowest-antisym : (cs ds : List Bool) → LowestDecides cs ds → LowestDecides ds cs → cs ≡ ds
+unfolding LowestDecides
+lowest-antisym [] [] p q = refl
+lowest-antisym [] (d ∷ ds) p q = absurd q
+lowest-antisym (c ∷ cs) [] p q = absurd p
+lowest-antisym (false ∷ cs) (false ∷ ds) p q = rw (lowest-antisym cs ds p q)
+lowest-antisym (false ∷ cs) (true ∷ ds) p q = absurd q
+lowest-antisym (true ∷ cs) (false ∷ ds) p q = absurd p
+lowest-antisym (true ∷ cs) (true ∷ ds) p q = rw (lowest-antisym cs ds p q)
 
 -- The numbers xs, taken one after another, are never in use already: what the search tests.
 Fresh : List ℕ → List ℕ → Type 0
@@ -72,13 +73,13 @@ record FillsOver (used : List ℕ) (keys : List Key) (choices : List Bool) : Typ
 -- An option is the least sequence with a property, or there is none with it.
 abbrev pub LeastOf : (List Bool → Type 0) → Option (List Bool) → Type 0
 LeastOf P none = (cs : List Bool) → P cs → ⊥
-LeastOf P (some cs) = P cs × ((ds : List Bool) → P ds → NotAfter cs ds)
+LeastOf P (some cs) = P cs × ((ds : List Bool) → P ds → LowestDecides cs ds)
 
 -- One that begins with choice 0 comes before those that begin with choice 1.
 leastOf-orElse : (P : List Bool → Type 0) → (P [] → ⊥) → (o₀ o₁ : Option (List Bool))
     → LeastOf (λ cs. P (false ∷ cs)) o₀ → LeastOf (λ cs. P (true ∷ cs)) o₁
     → LeastOf P (orElse (Option·map (λ cs. false ∷ cs) o₀) (Option·map (λ cs. true ∷ cs) o₁))
-unfolding NotAfter orElse
+unfolding LowestDecides orElse
 leastOf-orElse P nil (some cs) o₁ h₀ h₁ =
     (h₀ .0, elim [ [] ↦ λ p. absurd (nil p) | false ∷ ds ↦ λ p. h₀ .1 ds p | true ∷ ds ↦ λ p. tt ])
 leastOf-orElse P nil none none h₀ h₁ = elim [ [] ↦ λ p. nil p | false ∷ ds ↦ λ p. h₀ ds p | true ∷ ds ↦ λ p. h₁ ds p ]
@@ -123,7 +124,7 @@ leastOf-key used key keys o h =
 
 -- The search over the places used so far.
 leastFrom-is : (used : List ℕ) (keys : List Key) → LeastOf (FillsOver used keys) (leastFrom used keys)
-unfolding leastFrom NotAfter Fresh chosen
+unfolding leastFrom LowestDecides Fresh chosen
 leastFrom-is used [] = (record { whole = refl; off = tt }, λ ds f. tt)
 leastFrom-is used (key ∷ keys) =
     leastOf-key used key keys (λ c. leastFrom (placeBy c key ∷ used) keys) (λ c. leastFrom-is (placeBy c key ∷ used) keys)
@@ -154,17 +155,17 @@ pub least-none : (keys : List Key) → least keys ≡ none → (cs : List Bool) 
 least-none keys e = rw e at (least-is keys)
 
 -- Nothing that fills comes before the least sequence.
-pub least-least : (keys : List Key) {cs : List Bool} → least keys ≡ some cs → (ds : List Bool) → Fills keys ds → NotAfter cs ds
+pub least-least : (keys : List Key) {cs : List Bool} → least keys ≡ some cs → (ds : List Bool) → Fills keys ds → LowestDecides cs ds
 least-least keys e = (rw e at (least-is keys)) .1
 
 -- A sequence that fills, with nothing that fills before it, is the least: there is only one.
 pub least-only : (keys : List Key) (cs : List Bool) → Fills keys cs
-    → ((ds : List Bool) → Fills keys ds → NotAfter cs ds) → least keys ≡ some cs
+    → ((ds : List Bool) → Fills keys ds → LowestDecides cs ds) → least keys ≡ some cs
 least-only keys cs f h = go (least keys) (least-is keys)
   where
     go : (o : Option (List Bool)) → LeastOf (Fills keys) o → o ≡ some cs
     go none n = absurd (n cs f)
-    go (some ds) l = rw (notAfter-antisym ds cs (l .1 cs f) (h ds (l .0)))
+    go (some ds) l = rw (lowest-antisym ds cs (l .1 cs f) (h ds (l .0)))
 
 -- Feasible keys have a sequence that fills.
 pub feasible-fills : (keys : List Key) → feasible keys ≡ true → (cs : List Bool) × Fills keys cs

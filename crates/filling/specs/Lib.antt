@@ -1,8 +1,11 @@
 pub mod Filling
 pub mod Separate
 pub mod FillingLaws
+pub mod Order
 pub mod Least
 pub mod LeastLaws
+pub mod Taken
+pub mod TakenLaws
 pub mod Word
 pub mod WordLaws
 pub mod Touched

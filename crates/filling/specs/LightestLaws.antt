@@ -1,4 +1,4 @@
--- The lightest sequence is the least: where the weights of the keys and the order of choices meet. Assumes nothing.
+-- The lightest sequence is the one taken: where the weights of the keys and the order of choices meet. Assumes nothing.
 use Prim.Native.Nat.{ℕ, suc, _≤_, _<_}
 use mathlib.Core.Path.{_≡_, refl, sym, _∙_, ap}
 use mathlib.Core.Bool.{Bool, true, false}
@@ -12,25 +12,25 @@ use Rattle.lists.specs.UpToLaws.{upTo-length, upTo-at}
 use Rattle.filling.specs.Filling.{Key, Fills}
 use Rattle.filling.specs.Separate.{byIndex, keyPlace, Separate}
 use Rattle.filling.specs.FillingLaws.{separate-same, apart-fills, fills-apart}
-use Rattle.filling.specs.Least.{least}
-use Rattle.filling.specs.LeastLaws.{least-only, least-fills, least-least, notAfter-antisym}
+use Rattle.filling.specs.Taken.{sequenceTaken}
+use Rattle.filling.specs.TakenLaws.{notAfter-antisym, sequence-fills, sequence-first, sequence-only}
 use Rattle.filling.specs.Weight.{keyWeight, choiceWeight, total}
 use Rattle.filling.specs.WeightLaws.{total-same, weight-notAfter, weight-gap, weight-same}
 use Rattle.filling.specs.Insertion.{Lightest, LightestWith, Taken}
 
--- Among the sequences that fill at most 32 keys, the lightest is the least.
+-- Among the sequences that fill at most 32 keys, the lightest is taken.
 pub lightest-fills : (keys : List Key) (cs : List Bool) → length keys ≤ 32 → Fills keys cs
     → ((ds : List Bool) → Fills keys ds
-    → total keyWeight (byIndex cs) (length keys) ≤ total keyWeight (byIndex ds) (length keys)) → least keys ≡ some cs
+    → total keyWeight (byIndex cs) (length keys) ≤ total keyWeight (byIndex ds) (length keys)) → sequenceTaken keys ≡ some cs
 lightest-fills keys cs few fills lightest =
-    least-only keys cs fills (λ ds f.
+    sequence-only keys cs fills (λ ds f.
     weight-notAfter cs ds (fills .whole ∙ sym (f .whole)) (omega (arith, fills .whole))
     (rw (fills .whole, f .whole) (lightest ds f)))
 
--- So the lightest sequence that insertion gives is `least`.
-pub lightest-least : (keys : List Key) (cs : List Bool) → length cs ≡ length keys → length keys ≤ 32
-    → Lightest (keyPlace keys) keyWeight (length keys) (byIndex cs) → least keys ≡ some cs
-lightest-least keys cs l few light =
+-- So the lightest sequence that insertion gives is the one taken.
+pub lightest-taken : (keys : List Key) (cs : List Bool) → length cs ≡ length keys → length keys ≤ 32
+    → Lightest (keyPlace keys) keyWeight (length keys) (byIndex cs) → sequenceTaken keys ≡ some cs
+lightest-taken keys cs l few light =
     lightest-fills keys cs few (apart-fills keys cs l (light .separate))
     (λ ds f. light .lightest (byIndex ds) (fills-apart keys ds f))
 
@@ -40,16 +40,16 @@ separate-fills keys f apart =
     apart-fills keys (upTo (length keys) f) (upTo-length (length keys) f)
     (separate-same (λ i lt. ap (keyPlace keys i) (sym (upTo-at (length keys) f false i lt))) apart)
 
--- The least sequence is the lightest: what separates the keys does not come before it, so it is not lighter.
-pub least-lightest : (keys : List Key) {cs : List Bool} → length keys ≤ 32 → least keys ≡ some cs
+-- The sequence taken is the lightest: what separates the keys does not come before it, so it is not lighter.
+pub taken-lightest : (keys : List Key) {cs : List Bool} → length keys ≤ 32 → sequenceTaken keys ≡ some cs
     → Lightest (keyPlace keys) keyWeight (length keys) (byIndex cs)
-least-lightest keys {cs} few e = record {
+taken-lightest keys {cs} few e = record {
   separate = fills-apart keys cs fills;
   lightest = λ f apart. go f apart (decLt (total keyWeight f (length keys)) (total keyWeight (byIndex cs) (length keys)));
 }
   where
     fills : Fills keys cs
-    fills = least-fills keys e
+    fills = sequence-fills keys e
 
     go : (f : ℕ → Bool) → Separate (keyPlace keys) (length keys) f
         → Dec (total keyWeight f (length keys) < total keyWeight (byIndex cs) (length keys))
@@ -63,7 +63,7 @@ least-lightest keys {cs} few e = record {
         let before =
         weight-notAfter (upTo (length keys) f) cs (long ∙ sym (fills .whole)) (omega (arith, long))
         (rw (long, fills .whole) (omega (arith, level))) in
-        let after = least-least keys e (upTo (length keys) f) (separate-fills keys f apart) in
+        let after = sequence-first keys e (upTo (length keys) f) (separate-fills keys f apart) in
         let same = notAfter-antisym cs (upTo (length keys) f) after before in
         omega (arith, level, ap (λ (xs : List Bool). total keyWeight (byIndex xs) (length keys)) same)
 

@@ -1,5 +1,5 @@
 -- Keys along a path: the first has the path's first place twice, each other key the place before and its own. Each but the first can
--- only take its own, by choice 1, so the word of the least sequence has all bits but the lowest. Assumes nothing.
+-- only take its own, by choice 1, so the word of the sequence taken has all bits but the lowest. Assumes nothing.
 use Prim.Native.Nat.{ℕ, zero, suc, _+_, _^_}
 use mathlib.Core.Path.{_≡_, refl, _∙_}
 use mathlib.Core.Bool.{Bool, true, false, not, _&&_}
@@ -14,6 +14,7 @@ use Rattle.lists.specs.Occurs.{occurs}
 use Rattle.lists.specs.OccursLaws.{occurs-here}
 use Rattle.filling.specs.Filling.{Key, placeBy}
 use Rattle.filling.specs.Least.{beginning, leastFrom, least}
+use Rattle.filling.specs.Taken.{sequenceTaken}
 use Rattle.filling.specs.Word.{choiceNumber, wordOf}
 
 -- The keys behind a place, each with the place before it and its own.
@@ -45,10 +46,10 @@ path-on used place (next ∷ rest) taken free =
     second-forced used place next (pathFrom next rest) taken (not-true (occurs next used) own)
     ∙ rw (path-on (next ∷ used) next rest (occurs-here next used) later)
 
-pub path-least : (place : ℕ) (rest : List ℕ) → fresh (place ∷ []) rest ≡ true
-    → least (path place rest) ≡ some (false ∷ replicate (length rest) true)
-unfolding least leastFrom beginning placeBy orElse occurs
-path-least place rest free = rw (path-on (place ∷ []) place rest (occurs-here place []) free)
+pub path-taken : (place : ℕ) (rest : List ℕ) → fresh (place ∷ []) rest ≡ true
+    → sequenceTaken (path place rest) ≡ some (false ∷ replicate (length rest) true)
+unfolding sequenceTaken least leastFrom beginning placeBy orElse occurs
+path-taken place rest free = rw (path-on (place ∷ []) place rest (occurs-here place []) free)
 
 -- The word of n choices 1 has n bits, so that of a path all but the lowest.
 ones-word : (n : ℕ) → wordOf (replicate n true) + 1 ≡ 2 ^ n

@@ -10,7 +10,7 @@ use native.Mathlib.Omega.{arith}
 use lib.ListN.{length}
 use lib.Pow.{pow-mono, pow-pos}
 use Rattle.filling.specs.Separate.{byIndex}
-use Rattle.filling.specs.Least.{NotAfter}
+use Rattle.filling.specs.Order.{LowestDecides, NotAfter}
 use Rattle.filling.specs.WordLaws.{choice-same}
 use Rattle.filling.specs.Weight.{keyWeight, choiceWeight, total, count}
 
@@ -111,8 +111,8 @@ halving-below (suc e) (c ∷ cs) l =
 
 -- So the first choice in which two sequences differ decides which is lighter.
 halving-order : (e : ℕ) (cs ds : List Bool) → length cs ≡ length ds → length cs ≤ e
-    → total (halving e) (byIndex cs) (length cs) ≤ total (halving e) (byIndex ds) (length ds) → NotAfter cs ds
-unfolding NotAfter choiceWeight
+    → total (halving e) (byIndex cs) (length cs) ≤ total (halving e) (byIndex ds) (length ds) → LowestDecides cs ds
+unfolding LowestDecides choiceWeight
 halving-order e [] ds l few le = tt
 halving-order e (c ∷ cs) [] l few le = absurd (omega arith)
 halving-order zero (c ∷ cs) (d ∷ ds) l few le = absurd (omega arith)
@@ -135,6 +135,7 @@ keyWeight-halving c n = total-same keyWeight (halving 32) c c n (λ i lt. ap (λ
 -- Of two choice sequences for at most 32 keys, one that is not heavier does not come after: the weight is the order.
 pub weight-notAfter : (cs ds : List Bool) → length cs ≡ length ds → length cs ≤ 32
     → total keyWeight (byIndex cs) (length cs) ≤ total keyWeight (byIndex ds) (length ds) → NotAfter cs ds
+unfolding NotAfter
 weight-notAfter cs ds l few le =
     halving-order 32 cs ds l few
     (omega (arith, keyWeight-halving (byIndex cs) (length cs), keyWeight-halving (byIndex ds) (length ds)))

@@ -7,7 +7,8 @@ use lib.ListN.{length}
 use Rattle.lists.specs.First.{first}
 use Rattle.hash.specs.Formula.{placeOf}
 use Rattle.filling.specs.Filling.{Key}
-use Rattle.filling.specs.Least.{least, feasible}
+use Rattle.filling.specs.Least.{feasible}
+use Rattle.filling.specs.Taken.{sequenceTaken}
 use Rattle.filling.specs.Word.{wordOf}
 
 -- The two candidate places of tag t among n under seed s: a key of the theory of filling.
@@ -26,10 +27,10 @@ groupUnder tags s = candidates (length tags) s tags
 unfoldable pub leastSeed : List ℕ → ℕ → Option ℕ
 leastSeed tags limit = first (λ s. feasible (groupUnder tags s)) limit
 
--- The choice sequence taken under a seed: "Among filling sequences the least is taken". Empty where none fills.
+-- The choice sequence taken under a seed; empty where none fills.
 unfoldable pub taken : List ℕ → ℕ → List Bool
-taken tags s = Option·getD (least (groupUnder tags s)) []
+taken tags s = Option·getD (sequenceTaken (groupUnder tags s)) []
 
 -- The word of a group under a seed: the choice word of the sequence taken, where any sequence fills.
 unfoldable pub wordUnder : List ℕ → ℕ → Option ℕ
-wordUnder tags s = Option·map wordOf (least (groupUnder tags s))
+wordUnder tags s = Option·map wordOf (sequenceTaken (groupUnder tags s))

@@ -12,8 +12,11 @@ use Rattle.hash.specs.Formula.{placeOf}
 use Rattle.hash.specs.FormulaLaws.{place-below}
 use Rattle.filling.specs.Filling.{placeBy, chosen, Fills, EachCandidate}
 use Rattle.filling.specs.Word.{choiceNumber}
-use Rattle.filling.specs.Least.{NotAfter, least, feasible}
-use Rattle.filling.specs.LeastLaws.{least-fills, least-least, least-only, feasible-fills, infeasible-none, fills-feasible, none-infeasible}
+use Rattle.filling.specs.Order.{NotAfter}
+use Rattle.filling.specs.Least.{feasible}
+use Rattle.filling.specs.LeastLaws.{feasible-fills, infeasible-none, fills-feasible, none-infeasible}
+use Rattle.filling.specs.Taken.{sequenceTaken}
+use Rattle.filling.specs.TakenLaws.{sequence-fills, sequence-first, sequence-only, sequence-exists}
 use Rattle.group.specs.Group.{bothPlaces, candidates, groupUnder, leastSeed, taken}
 
 -- Each tag has its pair of candidate places.
@@ -67,30 +70,31 @@ abbrev seedTest : List ℕ → ℕ → Bool
 seedTest tags s = feasible (groupUnder tags s)
 
 module _ (tags : List ℕ) where
-  -- The sequence taken is the least, where there is one.
-  taken-of-least : (s : ℕ) {cs : List Bool} → least (groupUnder tags s) ≡ some cs → taken tags s ≡ cs
+  -- The sequence taken of the candidate places, where there is one.
+  taken-of-some : (s : ℕ) {cs : List Bool} → sequenceTaken (groupUnder tags s) ≡ some cs → taken tags s ≡ cs
   unfolding taken
-  taken-of-least s e = rw e
+  taken-of-some s e = rw e
 
   -- There is one where any sequence fills.
-  pub least-of-fills : (s : ℕ) (cs : List Bool) → Fills (groupUnder tags s) cs → least (groupUnder tags s) ≡ some (taken tags s)
-  unfolding feasible
-  least-of-fills s cs f =
-      let (ds, e) = some-of-isSome (least (groupUnder tags s)) (fills-feasible (groupUnder tags s) cs f) in
-      rw (taken-of-least s e) e
+  pub taken-of-fills : (s : ℕ) (cs : List Bool) → Fills (groupUnder tags s) cs
+      → sequenceTaken (groupUnder tags s) ≡ some (taken tags s)
+  taken-of-fills s cs f =
+      let exists = sequence-exists (groupUnder tags s) ∙ fills-feasible (groupUnder tags s) cs f in
+      let (ds, e) = some-of-isSome (sequenceTaken (groupUnder tags s)) exists in
+      rw (taken-of-some s e) e
 
   -- The sequence taken fills where any does.
   pub taken-fills : (s : ℕ) (cs : List Bool) → Fills (groupUnder tags s) cs → Fills (groupUnder tags s) (taken tags s)
-  taken-fills s cs f = least-fills (groupUnder tags s) (least-of-fills s cs f)
+  taken-fills s cs f = sequence-fills (groupUnder tags s) (taken-of-fills s cs f)
 
   -- Nothing that fills comes before the sequence taken.
   pub taken-least : (s : ℕ) (cs : List Bool) → Fills (groupUnder tags s) cs → NotAfter (taken tags s) cs
-  taken-least s cs f = least-least (groupUnder tags s) (least-of-fills s cs f) cs f
+  taken-least s cs f = sequence-first (groupUnder tags s) (taken-of-fills s cs f) cs f
 
   -- A sequence that fills, with nothing that fills before it, is the one taken.
   pub taken-unique : (s : ℕ) (cs : List Bool) → Fills (groupUnder tags s) cs
       → ((ds : List Bool) → Fills (groupUnder tags s) ds → NotAfter cs ds) → taken tags s ≡ cs
-  taken-unique s cs f h = taken-of-least s (least-only (groupUnder tags s) cs f h)
+  taken-unique s cs f h = taken-of-some s (sequence-only (groupUnder tags s) cs f h)
 
   -- The seed found is the least under which anything fills.
   pub leastSeed-some : (limit : ℕ) {s : ℕ} → leastSeed tags limit ≡ some s → LeastSeed tags limit s
@@ -136,5 +140,8 @@ leastSeed-empty limit below = leastSeed-only [] limit 0 [] below (fills-empty 0)
 
 -- Of the empty group the empty sequence is taken, under every seed.
 pub taken-empty : (s : ℕ) → taken [] s ≡ []
-unfolding NotAfter
-taken-empty s = taken-unique [] s [] (fills-empty s) (λ ds f. tt)
+taken-empty s = go (taken [] s) (fills-length 0 s [] (taken-fills [] s [] (fills-empty s)))
+  where
+    go : (cs : List Bool) → length cs ≡ 0 → cs ≡ []
+    go [] e = refl
+    go (c ∷ cs) e = absurd (omega arith)

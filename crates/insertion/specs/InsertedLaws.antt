@@ -13,7 +13,7 @@ use Rattle.refusal.specs.Limits.{groupMax}
 use Rattle.bits.specs.Bit.{setBit}
 use Rattle.filling.specs.Word.{choiceNumber, wordOf}
 use Rattle.filling.specs.WordLaws.{choiceNumber-same}
-use Rattle.filling.specs.Least.{least}
+use Rattle.filling.specs.Taken.{sequenceTaken}
 use Rattle.filling.specs.Weight.{keyWeight, choiceWeight, total}
 use Rattle.filling.specs.Insertion.{Lightest, NoneWith, Occupies, Insertion, Walk}
 use Rattle.filling.specs.InsertionLaws.{insertion-start, insertion-turn, insertion-done, insertion-stuck, insertion-returned, walk-start}
@@ -25,7 +25,7 @@ use Rattle.bits.specs.WordBitsLaws.{toggle-below, toggle-toggled, choice-own, c
 use Rattle.places.specs.Array.{entryOf, Candidates, keysOf}
 use Rattle.places.specs.ArrayLaws.{entry-other, entry-part, candidates-fewer}
 use Rattle.insertion.specs.Answer.{insertedMeaning}
-use Rattle.insertion.specs.LeastWordLaws.{lightest-word, word-lightest, nothing-word}
+use Rattle.insertion.specs.TakenWordLaws.{lightest-word, word-lightest, nothing-word}
 use Rattle.insertion.specs.WordWeight.{wordWeight, lighterOf}
 use Rattle.insertion.specs.Occupants.{placeTaken, occupantsOf, Occupied}
 use Rattle.insertion.specs.OccupantsLaws.{occupied-same, free-untaken, cell-taken, occupied-more, occupied-only, occupied-of}
@@ -33,14 +33,14 @@ use Rattle.insertion.specs.Inserted.{LightestWord, LightestWordWith, Ins
 use Rattle.insertion.specs.declared.Inserted.{Inserted}
 use Rattle.insertion.specs.declared.Inserted.the-variants.{Word, Nothing}
 
--- The answer with key k is the word of the least sequence of the keys 0 to k.
+-- The answer with key k is the word of the sequence taken for the keys 0 to k.
 abbrev WithKeyIs : List ℕ → ℕ → Inserted → Type 0
-WithKeyIs places k r = insertedMeaning r ≡ Option·map wordOf (least (keysOf (k + 1) places))
+WithKeyIs places k r = insertedMeaning r ≡ Option·map wordOf (sequenceTaken (keysOf (k + 1) places))
 
--- Before it: the word of the least sequence of the keys before k.
+-- Before it: the word of the sequence taken for the keys before k.
 abbrev Before : List ℕ → ℕ → ℕ → Type 0
 Before places k word =
-    (k < groupMax) × Candidates places (k + 1) × (some word ≡ Option·map wordOf (least (keysOf k places)))
+    (k < groupMax) × Candidates places (k + 1) × (some word ≡ Option·map wordOf (sequenceTaken (keysOf k places)))
 
 -- What inserting key k with the word's choice wants.
 abbrev Ready : List ℕ → ℕ → ℕ → List ℕ → Type 0
@@ -137,7 +137,7 @@ module _ (places : List ℕ) where
                 (toggle-toggled choices o);
           }
 
-  -- The two insertions of key k into the word of the least sequence before it, with bit k clear and with it set.
+  -- The two insertions of key k into the word of the sequence taken before it, with bit k clear and with it set.
   module _ (k word : ℕ) (before : Before places k word) where
     -- The place of key k under a choice has a cell.
     pub place-within : (choice : Bool) → entryOf places k choice < groupMax

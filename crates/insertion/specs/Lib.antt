@@ -4,5 +4,5 @@ pub mod Answer
 pub mod Occupants
 pub mod OccupantsLaws
 pub mod Inserted
-pub mod LeastWordLaws
+pub mod TakenWordLaws
 pub mod InsertedLaws

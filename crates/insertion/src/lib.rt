@@ -11,7 +11,7 @@ ghost use mathlib.Core.Option.{some, Option·map};
 ghost use Prim.Native.Nat.{_+_, _*_, _-_, _^_, _≤_, _<_};
 ghost use lib.ListN.{length};
 ghost use Rattle.refusal.specs.Limits.{groupMax};
-ghost use Rattle.filling.specs.Least.{least};
+ghost use Rattle.filling.specs.Taken.{sequenceTaken};
 ghost use Rattle.filling.specs.Word.{wordOf};
 ghost use Rattle.filling.specs.Weight.{keyWeight};
 ghost use Rattle.filling.specs.Separate.{Separate};
@@ -28,12 +28,12 @@ pub enum Inserted {
     Nothing,
 }
 
-// The word of the least sequence with key k, from that without it and the occupants under that: for each place 0, or one more than
+// The word of the sequence taken with key k, from that without it and the occupants under that: for each place 0, or one more than
 // the index of the key that has it. The cells become those under the word answered, and stay where there is none.
 pub fn with_key(places: &[u32], word: u32, k: u32, occupants: &mut [u32; MEMBER_CELLS]) -> Inserted
-    requires { ⌜ (k < groupMax) × Candidates (now places) (k + 1) × (some word ≡ Option·map wordOf (least (keysOf k (now places)))) ⌝ }
+    requires { ⌜ (k < groupMax) × Candidates (now places) (k + 1) × (some word ≡ Option·map wordOf (sequenceTaken (keysOf k (now places)))) ⌝ }
     requires { ⌜ now occupants ≡ occupantsOf (now places) word k ⌝ }
-    ensures answer { λ r. ⌜ insertedMeaning r ≡ Option·map wordOf (least (keysOf (k + 1) (now (places .entry)))) ⌝ }
+    ensures answer { λ r. ⌜ insertedMeaning r ≡ Option·map wordOf (sequenceTaken (keysOf (k + 1) (now (places .entry)))) ⌝ }
     ensures cells { λ r. ⌜ now (occupants .exit) ≡ occupantsAfter (now (places .entry)) k (now (occupants .entry)) (insertedMeaning r) ⌝ }
 {
     let first = places[k as usize] as usize;
@@ -56,9 +56,9 @@ pub fn with_key(places: &[u32], word: u32, k: u32, occupants: &mut [u32; MEMBER_
 
 // The lighter of the results of inserting key k with choice 0 and with choice 1.
 fn evicting(places: &[u32], word: u32, k: u32, occupants: &[u32]) -> Inserted
-    requires { ⌜ (k < groupMax) × Candidates (now places) (k + 1) × (some word ≡ Option·map wordOf (least (keysOf k (now places)))) ⌝ }
+    requires { ⌜ (k < groupMax) × Candidates (now places) (k + 1) × (some word ≡ Option·map wordOf (sequenceTaken (keysOf k (now places)))) ⌝ }
     requires { ⌜ now occupants ≡ occupantsOf (now places) word k ⌝ }
-    ensures answer { λ r. ⌜ insertedMeaning r ≡ Option·map wordOf (least (keysOf (k + 1) (now (places .entry)))) ⌝ }
+    ensures answer { λ r. ⌜ insertedMeaning r ≡ Option·map wordOf (sequenceTaken (keysOf (k + 1) (now (places .entry)))) ⌝ }
 {
     let Inserted::Word(a) = insert(places, word, k, occupants) else {
         return insert(places, bits::with_bit(word, k), k, occupants);

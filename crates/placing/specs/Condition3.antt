@@ -9,7 +9,7 @@ use lib.ListN.{length}
 use Rattle.refusal.specs.Limits.{limitMax, groupMax}
 use Rattle.refusal.specs.Outcome.{Outcome, answered, refused}
 use Rattle.filling.specs.Filling.{Fills}
-use Rattle.filling.specs.Least.{NotAfter}
+use Rattle.filling.specs.Order.{NotAfter}
 use Rattle.filling.specs.Word.{choicesOf}
 use Rattle.group.specs.Group.{groupUnder}
 use Rattle.group.specs.Ascending.{Ascending}

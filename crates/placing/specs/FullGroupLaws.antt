@@ -13,12 +13,12 @@ use Rattle.lists.specs.First.{first, metAt}
 use Rattle.lists.specs.Occurs.{occurs}
 use Rattle.hash.specs.Formula.{product, highPart, hashed, multiplier, placeOf}
 use Rattle.filling.specs.Filling.{Fills}
-use Rattle.filling.specs.Least.{least}
-use Rattle.filling.specs.LeastLaws.{least-fills}
+use Rattle.filling.specs.Taken.{sequenceTaken}
+use Rattle.filling.specs.TakenLaws.{sequence-fills}
 use Rattle.filling.specs.Word.{choiceNumber, wordOf}
-use Rattle.filling.specs.PathLaws.{path, fresh, path-least}
+use Rattle.filling.specs.PathLaws.{path, fresh, path-taken}
 use Rattle.group.specs.Group.{bothPlaces, candidates, groupUnder, leastSeed, taken}
-use Rattle.group.specs.GroupLaws.{leastSeed-only, least-of-fills}
+use Rattle.group.specs.GroupLaws.{leastSeed-only, taken-of-fills}
 use Rattle.group.specs.Ascending.{notAbove}
 use Rattle.group.specs.Unwired.{startsUnwired}
 use Rattle.group.specs.Placing.{placingChecks, placingOf}
@@ -47,17 +47,17 @@ apart : fresh (0 ∷ []) places ≡ true
 unfolding occurs
 apart = refl
 
-least-is : least (groupUnder tags 0) ≡ some choices
-least-is = rw along (path-least 0 places apart)
+sequence-is : sequenceTaken (groupUnder tags 0) ≡ some choices
+sequence-is = rw along (path-taken 0 places apart)
 
 fills : Fills (groupUnder tags 0) choices
-fills = least-fills (groupUnder tags 0) least-is
+fills = sequence-fills (groupUnder tags 0) sequence-is
 
 seed-is : leastSeed tags 1 ≡ some 0
 seed-is = leastSeed-only tags 1 0 choices (omega arith) fills (λ t lt. absurd (omega arith))
 
 taken-is : taken tags 0 ≡ choices
-taken-is = let found = sym (least-of-fills tags 0 choices fills) ∙ least-is in cc
+taken-is = let found = sym (taken-of-fills tags 0 choices fills) ∙ sequence-is in cc
 
 placeable : Placeable tags 1
 unfolding outside orElse metAt met first notAbove startsUnwired placingChecks

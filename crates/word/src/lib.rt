@@ -1,4 +1,4 @@
-// The word of a group under a seed: the choice word of the least sequence that gives each tag a place of its own.
+// The word of a group under a seed: the choice word of the sequence taken, which gives each tag a place of its own.
 use sequence::Choices;
 ghost use mathlib.Core.Path.{_≡_};
 ghost use Prim.Native.Nat.{_≤_};
@@ -14,5 +14,5 @@ pub fn word_under(tags: &[u32], seed: u32) -> Choices
 {
     let mut places = [0u32; places::PLACE_CELLS];
     candidates::candidate_places(tags, tags.len() as u32, seed, &mut places);
-    sequence::least_choices(&places, tags.len() as u32)
+    sequence::choices_taken(&places, tags.len() as u32)
 }

@@ -10,7 +10,7 @@ use Rattle.refusal.specs.Limits.{groupMax}
 use Rattle.bits.specs.WordBits.{withChoice}
 use Rattle.places.specs.Array.{entryOf}
 use Rattle.insertion.specs.Occupants.{occupantsAfter}
-use Rattle.insertion.specs.LeastWordLaws.{word-lightest}
+use Rattle.insertion.specs.TakenWordLaws.{word-lightest}
 use Rattle.insertion.specs.InsertedLaws.{place-within, cells-size, first-free, second-free, free-occupied}
 use Rattle.insertion.proofs.with_key.Statement.{statement}
 use Rattle.insertion.proofs.with_key.Tie as tie

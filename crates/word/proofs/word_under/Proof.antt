@@ -1,4 +1,4 @@
--- `word::word_under` meets its contract: the array states the group's keys, of which the least sequence is found. Assumes nothing.
+-- `word::word_under` meets its contract: the array states the group's keys, and the word taken for these is that under the seed. Assumes nothing.
 use borrow.Author.Needs.{needs}
 use mathlib.Core.Path.{_≡_, refl, sym}
 use mathlib.Core.List.{List}
@@ -27,15 +27,15 @@ laid c =
     let few = start .pre .0 in
     (group-candidates tags seed _ few refl (c .candidate-places .ensures), group-keys tags seed _ few refl (c .candidate-places .ensures))
 
-slice-aggregate-least-choices : tie.Need-slice-aggregate-least-choices
-slice-aggregate-least-choices c = sym (laid (c .before) .0 .size)
+slice-aggregate-choices-taken : tie.Need-slice-aggregate-choices-taken
+slice-aggregate-choices-taken c = sym (laid (c .before) .0 .size)
 
-least-choices-requires : tie.Need-least-choices-requires
-least-choices-requires c κs = (entry (c .before) .pre .0, laid (c .before) .0)
+choices-taken-requires : tie.Need-choices-taken-requires
+choices-taken-requires c κs = (entry (c .before) .pre .0, laid (c .before) .0)
 
 returns : tie.Need-returns
 unfolding wordUnder
-returns c = rw (laid (c .before .before) .1) at (c .least-choices .ensures)
+returns c = rw (laid (c .before .before) .1) at (c .choices-taken .ensures)
 
 pub word-under-spec : {M : Type 1} → statement M
 word-under-spec =
@@ -43,7 +43,7 @@ word-under-spec =
     (tie.spec
     (λ c. search needs)  -- cast-candidate-places
     (λ c κs. search needs)  -- candidate-places-requires
-    slice-aggregate-least-choices
-    (λ c. search needs)  -- cast-least-choices
-    least-choices-requires
+    slice-aggregate-choices-taken
+    (λ c. search needs)  -- cast-choices-taken
+    choices-taken-requires
     returns)

@@ -1,4 +1,4 @@
--- `sequence::worked::word_of_two_fillings` meets its contract: by the promise of `least_choices` the answer is the word that the
+-- `sequence::worked::word_of_two_fillings` meets its contract: by the promise of `choices_taken` the answer is the word that the
 -- definition computes to. Assumes nothing.
 use Prim.Native.Nat.{ℕ, zero, suc, _*_, _<_}
 use mathlib.Core.Path.{_≡_, refl, _∙_}
@@ -13,6 +13,7 @@ use Rattle.lists.specs.UpTo.{upTo}
 use Rattle.lists.specs.Occurs.{occurs}
 use Rattle.filling.specs.Filling.{placeBy}
 use Rattle.filling.specs.Least.{beginning, leastFrom, least}
+use Rattle.filling.specs.Taken.{sequenceTaken}
 use Rattle.filling.specs.Word.{choiceNumber, wordOf}
 use Rattle.places.specs.Array.{entryOf, Candidates, keysOf}
 use Rattle.sequence.proofs.worked.word_of_two_fillings.Statement.{statement}
@@ -33,8 +34,8 @@ candidates = record { size = refl; below = below }
     below (suc zero) lt true = omega arith
     below (suc (suc i)) lt choice = absurd (omega arith)
 
-computed : Option·map wordOf (least (keysOf 2 places)) ≡ some 2
-unfolding upTo entryOf keysOf least leastFrom beginning orElse occurs placeBy wordOf choiceNumber
+computed : Option·map wordOf (sequenceTaken (keysOf 2 places)) ≡ some 2
+unfolding upTo entryOf keysOf sequenceTaken least leastFrom beginning orElse occurs placeBy wordOf choiceNumber
 computed = refl
 
 same : {x y : ℕ} → some x ≡ some y → x ≡ y
@@ -43,17 +44,17 @@ same e = cc
 never : {x : ℕ} → none ≡ some x → ⊥
 never e = let z : _≡_ {A = ℕ} 0 1 = cc in omega arith
 
-least-choices-requires : tie.Need-least-choices-requires
-least-choices-requires c κs = (omega arith, candidates)
+choices-taken-requires : tie.Need-choices-taken-requires
+choices-taken-requires c κs = (omega arith, candidates)
 
 returns : tie.Need-returns
 returns c =
-    let promised = rw (c .before .word .given .1) at (c .before .before .before .least-choices .ensures) in
+    let promised = rw (c .before .word .given .1) at (c .before .before .before .choices-taken .ensures) in
     same (promised ∙ computed)
 
 returns-2 : tie.Need-returns-2
 returns-2 c =
-    let promised = rw (c .enum-told .given .1) at (c .before .before .least-choices .ensures) in
+    let promised = rw (c .enum-told .given .1) at (c .before .before .choices-taken .ensures) in
     absurd (never (promised ∙ computed))
 
 pub word-of-two-fillings-spec : {M : Type 1} → statement M
@@ -64,8 +65,8 @@ word-of-two-fillings-spec =
     (λ c. search needs)  -- add-places
     (λ c. search needs)  -- mul-places
     (λ c. search needs)  -- array-write-places-2
-    (λ c. search needs)  -- slice-aggregate-least-choices
-    least-choices-requires
+    (λ c. search needs)  -- slice-aggregate-choices-taken
+    choices-taken-requires
     (λ c. search needs)  -- enum-known-word
     (λ c. search needs)  -- enum-told
     returns

@@ -1,4 +1,4 @@
--- `sequence::least_choices` meets its contract: the word is that of the least sequence of the first k keys, and the cells hold its
+-- `sequence::choices_taken` meets its contract: the word is that of the sequence taken for the first k keys, and the cells hold its
 -- occupants. Assumes nothing.
 use Prim.Native.Nat.{_-_, _≤_}
 use mathlib.Core.Path.{_≡_, refl}
@@ -6,26 +6,27 @@ use mathlib.Core.Option.{some, Option·map}
 use native.Mathlib.Omega.{arith}
 use borrow.Author.Needs.{needs}
 use Rattle.lists.specs.UpTo.{upTo}
-use Rattle.filling.specs.Least.{leastFrom, least}
+use Rattle.filling.specs.Taken.{sequenceTaken}
+use Rattle.filling.specs.TakenLaws.{sequence-empty}
 use Rattle.filling.specs.Word.{wordOf}
 use Rattle.places.specs.Array.{keysOf}
 use Rattle.places.specs.ArrayLaws.{candidates-fewer}
-use Rattle.insertion.specs.LeastWordLaws.{nothing-more}
+use Rattle.insertion.specs.TakenWordLaws.{nothing-more}
 use Rattle.insertion.specs.Occupants.{occupantsOf, occupantsAfter}
 use Rattle.insertion.specs.OccupantsLaws.{occupants-none}
-use Rattle.sequence.proofs.least_choices.Statement.{statement}
-use Rattle.sequence.proofs.least_choices.Tie as tie
+use Rattle.sequence.proofs.choices_taken.Statement.{statement}
+use Rattle.sequence.proofs.choices_taken.Tie as tie
 
 abbrev Inv-loop : tie.InvT-loop
 Inv-loop places count occupants₀ word₀ k₀ occupants word k =
-    (k ≤ count) × (some word ≡ Option·map wordOf (least (keysOf k places))) × (occupants ≡ occupantsOf places word k)
+    (k ≤ count) × (some word ≡ Option·map wordOf (sequenceTaken (keysOf k places))) × (occupants ≡ occupantsOf places word k)
 
 abbrev μ-loop : tie.MeasureT-loop
 μ-loop places count occupants₀ word₀ k₀ occupants word k = count - k
 
 loop-holds : tie.Need-loop-holds Inv-loop μ-loop
-unfolding upTo keysOf least leastFrom wordOf
-loop-holds c = (omega arith, refl, occupants-none _ _)
+unfolding upTo keysOf wordOf
+loop-holds c = (omega arith, rw sequence-empty, occupants-none _ _)
 
 with-key-requires : tie.Need-with-key-requires Inv-loop μ-loop
 with-key-requires c κs =
@@ -58,8 +59,8 @@ returns-2 c =
     let all : at .k ≡ c .before .before .before .args .count = omega arith in
     rw all at (at .inv .1)
 
-pub least-choices-spec : {M : Type 1} → statement M
-least-choices-spec =
+pub choices-taken-spec : {M : Type 1} → statement M
+choices-taken-spec =
     tie.close
     (tie.spec
     Inv-loop
