@@ -79,10 +79,10 @@ exchanged-weight c before f x agrees = go (Bool-discrete c before)
     go (no m) = rw (exchanged-other c before f m, agrees m) (omega arith)
 
 -- c with the choice of key o toggled.
-toggle : (ℕ → Bool) → ℕ → ℕ → Bool
+pub toggle : (ℕ → Bool) → ℕ → ℕ → Bool
 toggle c o i = cond (eqb i o) (not (c i)) (c i)
 
-toggle-toggled : (c : ℕ → Bool) (o : ℕ) → Toggled c (toggle c o) o
+pub toggle-toggled : (c : ℕ → Bool) (o : ℕ) → Toggled c (toggle c o) o
 unfolding toggle
 toggle-toggled c o = record { here = rw (eq-eqb o o refl); others = λ i n. rw (ne-eqb i o n) }
 

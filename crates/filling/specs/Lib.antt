@@ -3,6 +3,7 @@ pub mod Separate
 pub mod FillingLaws
 pub mod Order
 pub mod Least
+pub mod SearchLaws
 pub mod LeastLaws
 pub mod Taken
 pub mod TakenLaws

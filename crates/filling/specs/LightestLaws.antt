@@ -1,10 +1,10 @@
 -- The lightest sequence is the one taken: where the weights of the keys and the order of choices meet. Assumes nothing.
-use Prim.Native.Nat.{ℕ, suc, _≤_, _<_}
+use Prim.Native.Nat.{ℕ, suc, _+_, _≤_, _<_}
 use mathlib.Core.Path.{_≡_, refl, sym, _∙_, ap}
-use mathlib.Core.Bool.{Bool, true, false}
+use mathlib.Core.Bool.{Bool, true, false, not-eq-not}
 use mathlib.Core.List.{List}
 use mathlib.Core.Option.{some}
-use native.Mathlib.Decide.{decLt}
+use native.Mathlib.Decide.{ℕ-discrete, decLt}
 use native.Mathlib.Omega.{arith}
 use lib.ListN.{length}
 use Rattle.lists.specs.UpTo.{upTo}
@@ -15,8 +15,9 @@ use Rattle.filling.specs.FillingLaws.{separate-same, apart-fills, fills-
 use Rattle.filling.specs.Taken.{sequenceTaken}
 use Rattle.filling.specs.TakenLaws.{notAfter-antisym, sequence-fills, sequence-first, sequence-only}
 use Rattle.filling.specs.Weight.{keyWeight, choiceWeight, total}
-use Rattle.filling.specs.WeightLaws.{total-same, weight-notAfter, weight-gap, weight-same}
-use Rattle.filling.specs.Insertion.{Lightest, LightestWith, Taken}
+use Rattle.filling.specs.WeightLaws.{total-same, total-change, weight-notAfter}
+use Rattle.filling.specs.Insertion.{Lightest, LightestWith}
+use Rattle.filling.specs.InsertionLaws.{toggle, toggle-toggled}
 
 -- Among the sequences that fill at most 32 keys, the lightest is taken.
 pub lightest-fills : (keys : List Key) (cs : List Bool) → length keys ≤ 32 → Fills keys cs
@@ -67,36 +68,58 @@ taken-lightest keys {cs} few e = record {
         let same = notAfter-antisym cs (upTo (length keys) f) after before in
         omega (arith, level, ap (λ (xs : List Bool). total keyWeight (byIndex xs) (length keys)) same)
 
--- Where the first place of key k is taken and its second is free, the lightest choices of the keys before it and its second place
--- are the lightest: with key k at its first place a key before it has another choice, and the choices of those keys then weigh more
--- by at least twice what key k does. This holds for these weights, not for any.
-pub second-place-lightest : (place : ℕ → Bool → ℕ) (k : ℕ) → k ≤ 31 → (before c : ℕ → Bool) → Lightest place keyWeight k before
-    → ((i : ℕ) → i < k → before i ≡ c i) → c k ≡ true → Taken place k before (place k false)
-    → LightestWith place keyWeight k true c
-    → Lightest place keyWeight (suc k) c
+-- Keys o and k have the same first place. Under f key k has it, so key o has its second; with o back at the first, the keys before k
+-- are separate as well, and their choices are lighter by the weight of o.
+module _ (place : ℕ → Bool → ℕ) (k o : ℕ) (below : o < k) (had : place o false ≡ place k false)
+    (f : ℕ → Bool) (all : Separate place (suc k) f) (e : f k ≡ false) where
+  elsewhere : (j : ℕ) → j < k → place j (f j) ≡ place o false → ⊥
+  elsewhere j lt z = let clash = all j k (omega arith) (omega arith) (z ∙ had ∙ sym (ap (place k) e)) in omega arith
+
+  moved : f o ≡ true
+  moved = not-eq-not .0 (λ z. elsewhere o below (ap (place o) z))
+
+  back : ℕ → Bool
+  back = toggle f o
+
+  back-first : back o ≡ false
+  unfolding back
+  back-first = toggle-toggled f o .here ∙ rw moved
+
+  still : (i : ℕ) → (i ≡ o → ⊥) → place i (back i) ≡ place i (f i)
+  unfolding back
+  still i n = ap (place i) (toggle-toggled f o .others i n)
+
+  back-separate : Separate place k back
+  back-separate i j li lj z = pair (ℕ-discrete i o) (ℕ-discrete j o)
+    where
+      pair : Dec (i ≡ o) → Dec (j ≡ o) → i ≡ j
+      pair (yes p) (yes q) = p ∙ sym q
+      pair (yes p) (no q) = absurd (elsewhere j lj (sym (still j q) ∙ sym z ∙ rw (p, back-first)))
+      pair (no p) (yes q) = absurd (elsewhere i li (sym (still i p) ∙ z ∙ rw (q, back-first)))
+      pair (no p) (no q) = all i j (omega arith) (omega arith) (sym (still i p) ∙ z ∙ still j q)
+
+  first-place-heavier : (weight : ℕ → ℕ) (before : ℕ → Bool) → Lightest place weight k before
+      → total weight before k + weight o ≤ total weight f k
+  unfolding choiceWeight back
+  first-place-heavier weight before light =
+      let change = total-change weight f back o k below (λ i n. sym (toggle-toggled f o .others i n)) in
+      omega (arith, light .lightest back back-separate, (rw (moved, back-first) at change))
+
+-- So where the second place of key k is free and the key that has its first stands at its own first place, the lightest choices of
+-- the keys before k and the second place of k are the lightest, under any weights that do not rise from that key to k.
+pub second-place-lightest : (place : ℕ → Bool → ℕ) (weight : ℕ → ℕ) (k : ℕ) (before c : ℕ → Bool) → Lightest place weight k before
+    → ((i : ℕ) → i < k → before i ≡ c i) → c k ≡ true → LightestWith place weight k true c
+    → (o : ℕ) → o < k → place o false ≡ place k false → weight k ≤ weight o
+    → Lightest place weight (suc k) c
 unfolding total choiceWeight
-second-place-lightest place k few before c light same last (o, lo, had) own = record {
+second-place-lightest place weight k before c light same last own o below had falls = record {
   separate = own .separate;
   lightest = λ f all. go f all (f k) refl;
 }
   where
-    level : total keyWeight before k ≡ total keyWeight c k
-    level = total-same keyWeight keyWeight before c k (λ i lt. refl) same
+    level : total weight before k ≡ total weight c k
+    level = total-same weight weight before c k (λ i lt. refl) same
 
-    go : (f : ℕ → Bool) → Separate place (suc k) f → (b : Bool) → f k ≡ b
-        → total keyWeight c (suc k) ≤ total keyWeight f (suc k)
+    go : (f : ℕ → Bool) → Separate place (suc k) f → (b : Bool) → f k ≡ b → total weight c (suc k) ≤ total weight f (suc k)
     go f all true e = own .lightest f all e
-    go f all false e =
-        rw (last, e) (omega (arith, level, weight-gap before f k few heavier))
-      where
-        fewer : total keyWeight before k ≤ total keyWeight f k
-        fewer = light .lightest f (λ i j li lj z. all i j (omega arith) (omega arith) z)
-
-        moved : total keyWeight before k ≡ total keyWeight f k → ⊥
-        moved z =
-            let kept = weight-same before f k (omega arith) z o lo in
-            let clash = all o k (omega arith) (omega arith) (sym (ap (place o) kept) ∙ had ∙ sym (ap (place k) e)) in
-            omega arith
-
-        heavier : total keyWeight before k < total keyWeight f k
-        heavier = omega (arith, fewer, moved)
+    go f all false e = rw (last, e) (omega (arith, level, first-place-heavier place k o below had f all e weight before light))

@@ -3,9 +3,10 @@
 use Prim.Native.Nat.{ℕ, zero, suc, _+_, _-_, _^_}
 use mathlib.Core.Bool.{Bool, true, false}
 
--- What the second place of the key with index i weighs, for i up to 31: more than the second places of all later keys together.
+-- What the second place of the key with index i weighs, for i up to 31: 2^32, so that fewer ones are lighter, and for the order between
+-- equals an addition that is more than those of all later keys together; those of all keys are less than 2^32.
 unfoldable pub keyWeight : ℕ → ℕ
-keyWeight i = 2 ^ (31 - i)
+keyWeight i = 2 ^ 32 + 2 ^ (31 - i)
 
 -- What a choice weighs: nothing for the first place, the key's weight for the second.
 unfoldable pub choiceWeight : Bool → ℕ → ℕ

@@ -1,6 +1,7 @@
 -- What `total` adds up to, and that the lighter of two choice sequences does not come after the other. Assumes nothing.
 use Prim.Native.Nat.{ℕ, zero, suc, _+_, _*_, _-_, _^_, _≤_, _<_}
 use mathlib.Core.Path.{_≡_, refl, sym, _∙_, ap}
+use mathlib.Core.Logic.{inl, inr}
 use mathlib.Core.Bool.{Bool, true, false}
 use mathlib.Core.List.{List, [], _∷_}
 use native.Mathlib.Nat.{two-pow-succ}
@@ -8,10 +9,10 @@ use native.Mathlib.Decide.{ℕ-discrete, decLt}
 use native.Mathlib.Numerals.{add-one}
 use native.Mathlib.Omega.{arith}
 use lib.ListN.{length}
-use lib.Pow.{pow-mono, pow-pos}
+use lib.Pow.{pow-mono}
 use Rattle.filling.specs.Separate.{byIndex}
-use Rattle.filling.specs.Order.{LowestDecides, NotAfter}
-use Rattle.filling.specs.WordLaws.{choice-same}
+use Rattle.filling.specs.Order.{ones, LowestDecides, NotAfter}
+use Rattle.filling.specs.Word.{choiceNumber}
 use Rattle.filling.specs.Weight.{keyWeight, choiceWeight, total, count}
 
 -- A choice weighs at most what its key does.
@@ -20,10 +21,15 @@ unfolding choiceWeight
 choice-most false x = omega arith
 choice-most true x = omega arith
 
--- The second place of a key weighs at most 2^31.
-pub keyWeight-most : (i : ℕ) → keyWeight i ≤ 2 ^ 31
+-- The second place of a key weighs at most 2^32 + 2^31,
+pub keyWeight-most : (i : ℕ) → keyWeight i ≤ 2 ^ 32 + 2 ^ 31
 unfolding keyWeight
-keyWeight-most i = let upto : 31 - i ≤ 31 = omega arith in pow-mono upto
+keyWeight-most i = let upto : 31 - i ≤ 31 = omega arith in omega (arith, pow-mono upto)
+
+-- and no more than that of a key before it.
+pub keyWeight-falls : (o k : ℕ) → o ≤ k → keyWeight k ≤ keyWeight o
+unfolding keyWeight
+keyWeight-falls o k le = let upto : 31 - k ≤ 31 - o = omega arith in omega (arith, pow-mono upto)
 
 -- Only the first n choices and weights count.
 pub total-same : (w v : ℕ → ℕ) (c d : ℕ → Bool) (n : ℕ) → ((i : ℕ) → i < n → w i ≡ v i) → ((i : ℕ) → i < n → c i ≡ d i)
@@ -43,8 +49,8 @@ pub total-first : (w : ℕ → ℕ) (c : ℕ → Bool) (i : ℕ) → c i ≡ fal
 unfolding total choiceWeight
 total-first w c i e = rw (add-one i, e) (omega arith)
 
--- n choices weigh at most n times 2^31.
-pub weight-most : (c : ℕ → Bool) (n : ℕ) → total keyWeight c n ≤ n * 2 ^ 31
+-- n choices weigh at most n times as much.
+pub weight-most : (c : ℕ → Bool) (n : ℕ) → total keyWeight c n ≤ n * (2 ^ 32 + 2 ^ 31)
 unfolding total
 weight-most c zero = omega arith
 weight-most c (suc n) = omega (arith, choice-most (c n) (keyWeight n), keyWeight-most n, weight-most c n)
@@ -127,78 +133,42 @@ halving-order (suc e) (true ∷ cs) (true ∷ ds) l few le =
     halving-order e cs ds (omega arith) (omega arith)
     (omega (arith, halving-cons e true cs (length cs), halving-cons e true ds (length ds)))
 
--- The weights of the keys are those of 32 keys.
-keyWeight-halving : (c : ℕ → Bool) (n : ℕ) → total keyWeight c n ≡ total (halving 32) c n
-unfolding keyWeight halving
-keyWeight-halving c n = total-same keyWeight (halving 32) c c n (λ i lt. ap (λ (x : ℕ). 2 ^ x) (omega arith)) (λ i lt. refl)
+-- What n choices weigh: 2^32 for each choice 1, and the weights of 32 keys.
+weight-is : (c : ℕ → Bool) (n : ℕ) → total keyWeight c n ≡ 2 ^ 32 * count c n + total (halving 32) c n
+unfolding total keyWeight halving choiceWeight
+weight-is c zero = refl
+weight-is c (suc n) =
+    let place : 32 - suc n ≡ 31 - n = omega arith in
+    rw (place, weight-is c n) (add (c n))
+  where
+    add : (b : Bool) → 2 ^ 32 * count c n + total (halving 32) c n + choiceWeight b (2 ^ 32 + 2 ^ (31 - n))
+        ≡ 2 ^ 32 * (count c n + choiceWeight b 1) + (total (halving 32) c n + choiceWeight b (2 ^ (31 - n)))
+    add false = omega arith
+    add true = omega arith
+
+-- A sequence has as many ones as it has choices 1.
+ones-count : (cs : List Bool) → count (byIndex cs) (length cs) ≡ ones cs
+unfolding total ones choiceWeight choiceNumber
+ones-count [] = refl
+ones-count (c ∷ cs) = omega (arith, total-cons (λ _. 1) c cs (length cs), ones-count cs, same c)
+  where
+    same : (c : Bool) → choiceWeight c 1 ≡ choiceNumber c
+    same false = refl
+    same true = refl
 
 -- Of two choice sequences for at most 32 keys, one that is not heavier does not come after: the weight is the order.
 pub weight-notAfter : (cs ds : List Bool) → length cs ≡ length ds → length cs ≤ 32
     → total keyWeight (byIndex cs) (length cs) ≤ total keyWeight (byIndex ds) (length ds) → NotAfter cs ds
 unfolding NotAfter
-weight-notAfter cs ds l few le =
-    halving-order 32 cs ds l few
-    (omega (arith, keyWeight-halving (byIndex cs) (length cs), keyWeight-halving (byIndex ds) (length ds)))
-
--- A key weighs twice what the next does, and something.
-keyWeight-next : (n : ℕ) → n < 31 → keyWeight n ≡ 2 * keyWeight (suc n)
-unfolding keyWeight
-keyWeight-next n lt =
-    let e : 31 - n ≡ suc (31 - suc n) = omega arith in
-    rw e (omega (arith, two-pow-succ (31 - suc n)))
-
-keyWeight-positive : (i : ℕ) → 0 < keyWeight i
-unfolding keyWeight
-keyWeight-positive i = pow-pos (31 - i)
-
--- One choice more keeps a difference of half, and equal sums differ as the choices do.
-gap-step : (p q : Bool) (x y w half : ℕ) → w ≡ 2 * half → (x < y → x + 2 * w ≤ y) → (y < x → y + 2 * w ≤ x)
-    → x + choiceWeight p w < y + choiceWeight q w → x + choiceWeight p w + 2 * half ≤ y + choiceWeight q w
-unfolding choiceWeight
-gap-step p q x y w half e less more lt = go (decLt x y) (decLt y x) p q lt
+weight-notAfter cs ds l few le = go (decLt (ones cs) (ones ds))
   where
-    go : Dec (x < y) → Dec (y < x) → (p q : Bool) → x + choiceWeight p w < y + choiceWeight q w
-        → x + choiceWeight p w + 2 * half ≤ y + choiceWeight q w
-    go (yes a) b p q lt = omega (arith, less a, choice-most p w)
-    go (no a) (yes b) p q lt = absurd (omega (arith, more b, choice-most q w))
-    go (no a) (no b) false false lt = absurd (omega (arith, a, b))
-    go (no a) (no b) false true lt = omega (arith, a, b)
-    go (no a) (no b) true false lt = absurd (omega (arith, a, b))
-    go (no a) (no b) true true lt = absurd (omega (arith, a, b))
+    parts : (xs : List Bool)
+        → total keyWeight (byIndex xs) (length xs) ≡ 2 ^ 32 * ones xs + total (halving 32) (byIndex xs) (length xs)
+    parts xs = weight-is (byIndex xs) (length xs) ∙ rw (ones-count xs)
 
--- What n choices weigh is a multiple of twice the next key's weight: what is heavier is heavier by that at least.
-pub weight-gap : (c d : ℕ → Bool) (n : ℕ) → n ≤ 31 → total keyWeight c n < total keyWeight d n
-    → total keyWeight c n + 2 * keyWeight n ≤ total keyWeight d n
-unfolding total
-weight-gap c d zero le lt = absurd (omega arith)
-weight-gap c d (suc n) le lt =
-    gap-step (c n) (d n) (total keyWeight c n) (total keyWeight d n) (keyWeight n) (keyWeight (suc n))
-    (keyWeight-next n (omega arith)) (weight-gap c d n (omega arith)) (weight-gap d c n (omega arith)) lt
-
--- So choices that weigh the same are the same.
-sum-same : (c d : ℕ → Bool) (n : ℕ) → n ≤ 31 → total keyWeight c (suc n) ≡ total keyWeight d (suc n)
-    → total keyWeight c n ≡ total keyWeight d n
-unfolding total
-sum-same c d n le e = go (decLt (total keyWeight c n) (total keyWeight d n)) (decLt (total keyWeight d n) (total keyWeight c n))
-  where
-    go : Dec (total keyWeight c n < total keyWeight d n) → Dec (total keyWeight d n < total keyWeight c n)
-        → total keyWeight c n ≡ total keyWeight d n
-    go (yes a) b =
-        absurd (omega (arith, weight-gap c d n le a, choice-most (c n) (keyWeight n), keyWeight-positive n))
-    go (no a) (yes b) =
-        absurd (omega (arith, weight-gap d c n le b, choice-most (d n) (keyWeight n), keyWeight-positive n))
-    go (no a) (no b) = omega (arith, a, b)
-
-pub weight-same : (c d : ℕ → Bool) (n : ℕ) → n ≤ 32 → total keyWeight c n ≡ total keyWeight d n
-    → (i : ℕ) → i < n → c i ≡ d i
-unfolding total choiceWeight
-weight-same c d zero le e i lt = absurd (omega arith)
-weight-same c d (suc n) le e i lt = go (ℕ-discrete i n) (λ below. weight-same c d n (omega arith) level i below)
-  where
-    level : total keyWeight c n ≡ total keyWeight d n
-    level = sum-same c d n (omega arith) e
-
-    go : Dec (i ≡ n) → (i < n → c i ≡ d i) → c i ≡ d i
-    go (yes z) earlier =
-        rw z (choice-same (λ b. choiceWeight b (keyWeight n)) (keyWeight-positive n) (c n) (d n) (omega (arith, level)))
-    go (no z) earlier = earlier (omega (arith, z))
+    go : Dec (ones cs < ones ds) → NotAfter cs ds
+    go (yes lt) = inl lt
+    go (no n) =
+        let below = halving-below 32 ds (omega arith) in
+        let same : ones cs ≡ ones ds = omega (arith, n, parts cs, parts ds) in
+        inr (same, halving-order 32 cs ds l few (omega (arith, parts cs, parts ds)))

@@ -15,6 +15,7 @@ use Rattle.filling.specs.Word.{choiceNumber, wordOf}
 use Rattle.filling.specs.WordLaws.{choiceNumber-same}
 use Rattle.filling.specs.Taken.{sequenceTaken}
 use Rattle.filling.specs.Weight.{keyWeight, choiceWeight, total}
+use Rattle.filling.specs.WeightLaws.{keyWeight-falls}
 use Rattle.filling.specs.Insertion.{Lightest, NoneWith, Occupies, Insertion, Walk}
 use Rattle.filling.specs.InsertionLaws.{insertion-start, insertion-turn, insertion-done, insertion-stuck, insertion-returned, walk-start}
 use Rattle.filling.specs.InsertionLaws.{walk-free, walk-occupied, walk-returned, walk-turn, lighter-lightest, only-lightest}
@@ -28,7 +29,7 @@ use Rattle.insertion.specs.Answer.{insertedMeaning}
 use Rattle.insertion.specs.TakenWordLaws.{lightest-word, word-lightest, nothing-word}
 use Rattle.insertion.specs.WordWeight.{wordWeight, lighterOf}
 use Rattle.insertion.specs.Occupants.{placeTaken, occupantsOf, Occupied}
-use Rattle.insertion.specs.OccupantsLaws.{occupied-same, free-untaken, cell-taken, occupied-more, occupied-only, occupied-of}
+use Rattle.insertion.specs.OccupantsLaws.{occupied-same, free-untaken, occupant-within, occupied-more, occupied-only, occupied-of}
 use Rattle.insertion.specs.Inserted.{LightestWord, LightestWordWith, InsertedIs}
 use Rattle.insertion.specs.declared.Inserted.{Inserted}
 use Rattle.insertion.specs.declared.Inserted.the-variants.{Word, Nothing}
@@ -206,6 +207,10 @@ module _ (places : List ℕ) where
       pub cells-size : length cells ≡ groupMax
       cells-size = occupied .size
 
+      -- A place that is not free has one of the keys before k.
+      pub occupant-lower : (v : ℕ) → (getD cells v 0 ≡ 0 → ⊥) → getD cells v 0 - 1 < k
+      occupant-lower = occupant-within places occupied
+
       -- So key k can be inserted with either choice.
       pub ready : (c : Bool) → Ready places k (withChoice word k c) cells
       ready c = ((before .0, before .1, choice-grown k word (was .below) c), (grown-lightest c, occupied-with c))
@@ -227,15 +232,17 @@ module _ (places : List ℕ) where
       unfolding withChoice
       first-free free = unmoved-stays (unmoved false free)
 
-      -- and where it is taken and the second is free, key k goes to its second place.
-      pub second-free : getD cells (entryOf places k true) 0 ≡ 0 → (getD cells (entryOf places k false) 0 ≡ 0 → ⊥)
-          → WithKeyIs places k (Word (setBit word k))
+      -- and where a key that stands at its own first place has it and the second is free, key k goes to its second place.
+      pub second-free : (o : ℕ) → getD cells (entryOf places k false) 0 ≡ o + 1 → choiceIn word o ≡ false
+          → getD cells (entryOf places k true) 0 ≡ 0 → WithKeyIs places k (Word (setBit word k))
       unfolding withChoice
-      second-free free busy =
+      second-free o cell first free =
+          let (lower, had) = occupied .who (entryOf places k false) o cell in
           lightest-up (setBit word k) (choice-grown k word (was .below) true)
-          (second-place-lightest (entryOf places) k (omega (arith, before .0)) (choiceIn word) (choiceIn (setBit word k))
+          (second-place-lightest (entryOf places) keyWeight k (choiceIn word) (choiceIn (setBit word k))
           (was .lightest) (choice-kept k word (was .below) true) (choice-own k word (was .below) true)
-          (cell-taken places occupied (entryOf places k false) busy) (chosen-lightest true (unmoved true free) .lightest))
+          (chosen-lightest true (unmoved true free) .lightest)
+          o lower (rw first at had) (keyWeight-falls o k (omega arith)))
 
     -- Where both have one, the lighter stays.
     pub lighter-stays : (a b : ℕ) → InsertedIs places k word (Word a) → InsertedIs places k (setBit word k) (Word b)

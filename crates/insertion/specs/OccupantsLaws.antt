@@ -66,17 +66,9 @@ module _ (places : List ℕ) where
   }
 
   module _ {word count : ℕ} {cells : List ℕ} (old : Occupied places word count cells) where
-    -- A free place is that of no key,
+    -- A free place is that of no key.
     pub free-untaken : (v : ℕ) → getD cells v 0 ≡ 0 → Taken (entryOf places) count (choiceIn word) v → ⊥
     free-untaken v free (o, lt, at) = omega (arith, rw at at (old .sits o lt))
-
-    -- and another that of its occupant.
-    pub cell-taken : (v : ℕ) → (getD cells v 0 ≡ 0 → ⊥) → Taken (entryOf places) count (choiceIn word) v
-    cell-taken v busy = go (getD cells v 0) refl
-      where
-        go : (x : ℕ) → getD cells v 0 ≡ x → Taken (entryOf places) count (choiceIn word) v
-        go zero e = absurd (busy e)
-        go (suc o) e = let (lt, at) = old .who v o (omega (arith, e)) in (o, lt, at)
 
     -- The occupant is one of the keys.
     pub occupant-within : (v : ℕ) → (getD cells v 0 ≡ 0 → ⊥) → getD cells v 0 - 1 < count

@@ -37,15 +37,18 @@ pub fn with_key(places: &[u32], word: u32, k: u32, occupants: &mut [u32; MEMBER_
     ensures cells { λ r. ⌜ now (occupants .exit) ≡ occupantsAfter (now (places .entry)) k (now (occupants .entry)) (insertedMeaning r) ⌝ }
 {
     let first = places[k as usize] as usize;
-    if occupants[first] == 0 {
+    let occupant = occupants[first];
+    if occupant == 0 {
         occupants[first] = k + 1;
         return Inserted::Word(word);
     }
-    // With its first place taken, key k could have it only if a key before it moved, and that weighs more than its second place.
-    let second = places[MEMBER_CELLS + k as usize] as usize;
-    if occupants[second] == 0 {
-        occupants[second] = k + 1;
-        return Inserted::Word(bits::with_bit(word, k));
+    // A key at its own first place weighs more at its second than key k does. One at its second place may move on for less.
+    if choice_at(word, occupant - 1) == 0 {
+        let second = places[MEMBER_CELLS + k as usize] as usize;
+        if occupants[second] == 0 {
+            occupants[second] = k + 1;
+            return Inserted::Word(bits::with_bit(word, k));
+        }
     }
     let Inserted::Word(next) = evicting(places, word, k, occupants) else {
         return Inserted::Nothing;

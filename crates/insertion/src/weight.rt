@@ -22,7 +22,7 @@ fn key_weight(i: u32) -> u64
     requires { ⌜ i < 32 ⌝ }
     ensures answer { λ r. ⌜ r ≡ keyWeight i ⌝ }
 {
-    1 << (31 - i)
+    4294967296 + (1 << (31 - i))
 }
 
 // What the choices of the first `count` keys weigh together.

@@ -19,7 +19,8 @@ use Rattle.text.specs.Line.{pairLine}
 use Rattle.lists.specs.Occurs.{occurs, distinct}
 use Rattle.filling.specs.Filling.{placeBy, chosen}
 use Rattle.filling.specs.Least.{beginning, leastFrom, least, feasible}
-use Rattle.filling.specs.Taken.{sequenceTaken}
+use Rattle.filling.specs.Order.{ones}
+use Rattle.filling.specs.Taken.{fewerOnes, takenFrom, sequenceTaken}
 use Rattle.filling.specs.Word.{choiceNumber, wordOf}
 use Rattle.group.specs.Group.{bothPlaces, candidates, leastSeed, taken}
 use Rattle.group.specs.GroupLaws.{leastSeed-empty}
@@ -47,7 +48,8 @@ holds-only limit claims h l from upto = let e : limit ≡ l = omega arith in sub
 -- `unfolding computed` opens every definition that a row of small numbers computes through; leastSeed stays shut where L is not given.
 computed : ℕ
 unfolding AllHold Holds metAt isSome met inOrder orElse product highPart hashed groupOf multiplier placeOf
-    oneTagChecks placeOfOneTag occurs distinct placeBy chosen beginning leastFrom least feasible sequenceTaken choiceNumber wordOf
+    oneTagChecks placeOfOneTag occurs distinct placeBy chosen beginning leastFrom least feasible
+    ones fewerOnes takenFrom sequenceTaken choiceNumber wordOf
     bothPlaces candidates taken notAbove startsUnwired placingChecks placementOf placingOf imageLength
     select members startOf choiceOf placeIn numberOf tagNumbered leading figure pairLine flatten upTo linesOf bytesOf
     followedBy onAnswer planOf plannedGroups plannedSeed earlierChecks planningChecks planningOf seedTaken planAfter sheetOf

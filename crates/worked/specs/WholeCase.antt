@@ -17,7 +17,9 @@ use Rattle.text.specs.Line.{listHeader, listLine}
 use Rattle.lists.specs.Occurs.{occurs, distinct}
 use Rattle.filling.specs.Filling.{placeBy}
 use Rattle.filling.specs.Least.{beginning, leastFrom, least, feasible}
-use Rattle.filling.specs.Taken.{sequenceTaken}
+use Rattle.filling.specs.Word.{choiceNumber}
+use Rattle.filling.specs.Order.{ones}
+use Rattle.filling.specs.Taken.{fewerOnes, takenFrom, sequenceTaken}
 use Rattle.group.specs.Group.{bothPlaces, candidates, leastSeed, taken}
 use Rattle.group.specs.Ascending.{notAbove}
 use Rattle.group.specs.Unwired.{startsUnwired}
@@ -42,7 +44,8 @@ use Rattle.tag_index.specs.Answer64.{answer64, foundNumber, buildAnswer, checkA
 computed : ℕ
 unfolding flatten orElse outside answeredBy followedBy first metAt isSome met inOrder product highPart hashed
     groupOf multiplier placeOf leading figure valueFrom same field lineAt pairLine tagLine ended bothFields pairOf tagOf
-    within imageHeader groupLine slotLine listHeader listLine occurs distinct placeBy beginning leastFrom least feasible sequenceTaken
+    within imageHeader groupLine slotLine listHeader listLine occurs distinct placeBy beginning leastFrom least feasible choiceNumber
+    ones fewerOnes takenFrom sequenceTaken
     bothPlaces candidates leastSeed taken notAbove startsUnwired malformed lineCount tagCount tagsFrom
     listedIn readingChecks readingOf upTo linesOf bytesOf imageLength longestImage viewOf countIn groupsIn startIn seedIn slotLineIn
     slotIn endIn faulty candidateIn openingChecks malformedIn groupOfSlot holdsUnwired misplaced repeated numberChecks

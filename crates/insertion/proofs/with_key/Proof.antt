@@ -1,17 +1,18 @@
--- `insertion::with_key` meets its contract: at a free first place no key moves, at a free second one key k weighs less than a move
--- of a key before it, and otherwise both insertions are made. Assumes nothing.
-use Prim.Native.Nat.{_+_, _<_}
+-- `insertion::with_key` meets its contract: at a free first place no key moves; at a free second one key k weighs no more than
+-- the key that has its first place would at its own second; and otherwise both insertions are made. Assumes nothing.
+use Prim.Native.Nat.{ℕ, _+_, _-_, _<_}
 use mathlib.Core.Path.{refl}
 use mathlib.Core.Bool.{true, false}
 use native.Mathlib.Omega.{arith}
 use lib.ListN.{getD}
 use borrow.Author.Needs.{needs}
 use Rattle.refusal.specs.Limits.{groupMax}
-use Rattle.bits.specs.WordBits.{withChoice}
+use Rattle.bits.specs.WordBits.{choiceIn, withChoice}
+use Rattle.bits.specs.WordBitsLaws.{choiceNumber-zero}
 use Rattle.places.specs.Array.{entryOf}
 use Rattle.insertion.specs.Occupants.{occupantsAfter}
 use Rattle.insertion.specs.TakenWordLaws.{word-lightest}
-use Rattle.insertion.specs.InsertedLaws.{place-within, cells-size, first-free, second-free, free-occupied}
+use Rattle.insertion.specs.InsertedLaws.{place-within, cells-size, occupant-lower, first-free, second-free, free-occupied}
 use Rattle.insertion.proofs.with_key.Statement.{statement}
 use Rattle.insertion.proofs.with_key.Tie as tie
 
@@ -24,51 +25,73 @@ second : (c : tie.Start) → getD (c .args .places .now) (groupMax + c .args .k)
 unfolding entryOf
 second c = place-within _ _ _ (c .pre .0) true
 
+-- Where the function began, and the key that has the first place.
+abbrev start : tie.After-occupant → tie.Start
+start c = c .before .before .before
+
+abbrev occupant : tie.Else1 → ℕ
+occupant c =
+    let a = start (c .before) .args in
+    getD (a .occupants .now) (getD (a .places .now) (a .k) 0) 0 - 1
+
 cast-first : tie.Need-cast-first
 cast-first c = record { fits = omega (arith, first (c .before .before)) }
 
-mul-if1 : tie.Need-mul-if1
-mul-if1 c = record { fits = omega (arith, first (c .before .before)) }
+mul-occupant : tie.Need-mul-occupant
+mul-occupant c = record { fits = omega (arith, first (c .before .before)) }
 
-element-copy-out-if1 : tie.Need-element-copy-out-if1
-element-copy-out-if1 c = omega (arith, first (c .before .before))
+element-copy-out-occupant : tie.Need-element-copy-out-occupant
+element-copy-out-occupant c = omega (arith, first (c .before .before))
 
 mul-occupants : tie.Need-mul-occupants
-mul-occupants c = record { fits = omega (arith, first (c .before .before .before .before)) }
+mul-occupants c = record { fits = omega (arith, first (start (c .before))) }
 
 element-write-occupants : tie.Need-element-write-occupants
-element-write-occupants c = omega (arith, first (c .before .before .before .before))
+element-write-occupants c = omega (arith, first (start (c .before)))
 
 returns : tie.Need-returns
 unfolding occupantsAfter entryOf withChoice
 returns c =
-    let pre = c .before .before .before .before .pre in
+    let pre = start (c .before) .pre in
     (first-free _ _ _ (pre .0) (pre .1) (c .if1 .taken), free-occupied _ _ _ (pre .0) (pre .1) false (c .if1 .taken))
 
+-- The key that has the first place.
+occupant-below : (c : tie.Else1) → occupant c < start (c .before) .args .k
+unfolding entryOf
+occupant-below c =
+    let pre = start (c .before) .pre in
+    occupant-lower _ _ _ (pre .0) (pre .1) _ (c .if1 .left)
+
+choice-at-requires : tie.Need-choice-at-requires
+choice-at-requires c κs = omega (arith, occupant-below c)
+
 cast-second : tie.Need-cast-second
-cast-second c = record { fits = omega (arith, second (c .before .before .before .before .before)) }
+cast-second c = record { fits = omega (arith, second (start (c .before .before .before .before))) }
 
-mul-if2 : tie.Need-mul-if2
-mul-if2 c = record { fits = omega (arith, second (c .before .before .before .before .before)) }
+mul-if3 : tie.Need-mul-if3
+mul-if3 c = record { fits = omega (arith, second (start (c .before .before .before .before))) }
 
-element-copy-out-if2 : tie.Need-element-copy-out-if2
-element-copy-out-if2 c = omega (arith, second (c .before .before .before .before .before))
+element-copy-out-if3 : tie.Need-element-copy-out-if3
+element-copy-out-if3 c = omega (arith, second (start (c .before .before .before .before)))
 
 mul-occupants-2 : tie.Need-mul-occupants-2
-mul-occupants-2 c = record { fits = omega (arith, second (c .before .before .before .before .before .before .before)) }
+mul-occupants-2 c = record { fits = omega (arith, second (start (c .before .before .before .before .before .before))) }
 
 element-write-occupants-2 : tie.Need-element-write-occupants-2
-element-write-occupants-2 c = omega (arith, second (c .before .before .before .before .before .before .before))
+element-write-occupants-2 c = omega (arith, second (start (c .before .before .before .before .before .before)))
 
 returns-2 : tie.Need-returns-2
 unfolding occupantsAfter entryOf withChoice
 returns-2 c =
-    let second = c .before in
-    let first = second .before .before .before in
-    let pre = first .before .before .before .before .pre in
+    let third = c .before in
+    let chosen = third .before .before .before .before in
+    let else1 = chosen .before in
+    let pre = start (else1 .before) .pre in
+    let at-first = choiceNumber-zero (choiceIn (start (else1 .before) .args .word) (occupant else1)) (λ e.
+    omega (arith, e, chosen .choice-at .ensures, third .before .before .before .if2 .taken)) in
     rw (c .with-bit .ensures) (
-      second-free _ _ _ (pre .0) (pre .1) (second .if2 .taken) (first .if1 .left),
-      free-occupied _ _ _ (pre .0) (pre .1) true (second .if2 .taken),
+      second-free _ _ _ (pre .0) (pre .1) (occupant else1) (omega (arith, else1 .if1 .left)) at-first (third .if3 .taken),
+      free-occupied _ _ _ (pre .0) (pre .1) true (third .if3 .taken),
     )
 
 returns-3 : tie.Need-returns-3
@@ -79,9 +102,9 @@ occupy-requires : tie.Need-occupy-requires
 occupy-requires c κs =
     let known = c .before .before in
     let evicted = known .before .before in
-    let start = evicted .before .before .before .before .before .before .before .before .before .before in
-    let pre = start .pre in
-    let a = start .args in
+    let from = start (evicted .before .before .before .before .before .before) in
+    let pre = from .pre in
+    let a = from .args in
     let next = rw (known .next .given .1) at (evicted .evicting .ensures) in
     let light = word-lightest (a .places .now) (a .k + 1) _ (omega arith) next in
     ((omega arith, pre .0 .1, cells-size _ _ _ (pre .0) (pre .1)), light .lightest .separate)
@@ -99,18 +122,20 @@ with-key-spec =
     (λ c. search needs)  -- mul-first
     (λ c. search needs)  -- shared-slice-read-first
     cast-first
-    mul-if1
-    element-copy-out-if1
+    mul-occupant
+    element-copy-out-occupant
     (λ c. search needs)  -- add-occupants
     mul-occupants
     element-write-occupants
     returns
+    (λ c. search needs)  -- sub-choice-at
+    choice-at-requires
     (λ c. search needs)  -- add-second
     (λ c. search needs)  -- mul-second
     (λ c. search needs)  -- shared-slice-read-second
     cast-second
-    mul-if2
-    element-copy-out-if2
+    mul-if3
+    element-copy-out-if3
     (λ c. search needs)  -- add-occupants-2
     mul-occupants-2
     element-write-occupants-2

@@ -1,7 +1,7 @@
 -- `sequence::choices_taken` meets its contract: the word is that of the sequence taken for the first k keys, and the cells hold its
 -- occupants. Assumes nothing.
 use Prim.Native.Nat.{_-_, _≤_}
-use mathlib.Core.Path.{_≡_, refl}
+use mathlib.Core.Path.{_≡_}
 use mathlib.Core.Option.{some, Option·map}
 use native.Mathlib.Omega.{arith}
 use borrow.Author.Needs.{needs}

@@ -1,4 +1,5 @@
--- `word::word_under` meets its contract: the array states the group's keys, and the word taken for these is that under the seed. Assumes nothing.
+-- `word::word_under` meets its contract: the array states the group's keys, and the sequence taken for these is the group's.
+-- Assumes nothing.
 use borrow.Author.Needs.{needs}
 use mathlib.Core.Path.{_≡_, refl, sym}
 use mathlib.Core.List.{List}

@@ -14,7 +14,8 @@ use Rattle.hash.specs.Formula.{product, highPart, hashed, groupOf, multiplier, 
 use Rattle.lists.specs.Occurs.{occurs}
 use Rattle.filling.specs.Filling.{placeBy}
 use Rattle.filling.specs.Least.{beginning, leastFrom, least, feasible}
-use Rattle.filling.specs.Taken.{sequenceTaken}
+use Rattle.filling.specs.Order.{ones}
+use Rattle.filling.specs.Taken.{fewerOnes, takenFrom, sequenceTaken}
 use Rattle.filling.specs.Word.{choiceNumber}
 use Rattle.group.specs.Group.{bothPlaces, candidates, leastSeed, taken}
 use Rattle.group.specs.Ascending.{notAbove}
@@ -34,7 +35,8 @@ use Rattle.claim.proofs.worked.number_of_one.Tie as tie
 
 computed : claimOf (1 ∷ 2 ∷ []) 1 1 44 1 ≡ answered (number 1)
 unfolding orElse outside followedBy first metAt isSome met inOrder product highPart hashed groupOf multiplier
-    placeOf occurs placeBy beginning leastFrom least feasible sequenceTaken choiceNumber bothPlaces candidates leastSeed taken
+    placeOf occurs placeBy beginning leastFrom least feasible
+    ones fewerOnes takenFrom sequenceTaken choiceNumber bothPlaces candidates leastSeed taken
     notAbove startsUnwired imageLength select members startOf choiceOf placeIn numberOf onAnswer upTo
     planOf plannedGroups plannedSeed earlierChecks planningChecks planningOf seedTaken planAfter choicesUnder
     writingChecks writingOf buildingOf foundIn claimOf

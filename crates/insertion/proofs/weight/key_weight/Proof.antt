@@ -1,8 +1,13 @@
--- `insertion::weight::key_weight` meets its contract: 1 shifted by 31 - i is 2^(31 - i). Assumes nothing.
+-- `insertion::weight::key_weight` meets its contract: 1 shifted by 31 - i is 2^(31 - i), and the sum has 34 bits. Assumes nothing.
+use native.Mathlib.Omega.{arith}
 use borrow.Author.Needs.{needs}
+use Rattle.filling.specs.WeightLaws.{keyWeight-most}
 use Rattle.insertion.specs.WordWeightLaws.{keyWeight-shifted}
 use Rattle.insertion.proofs.weight.key_weight.Statement.{statement}
 use Rattle.insertion.proofs.weight.key_weight.Tie as tie
+
+add-result : tie.Need-add-result
+add-result c = record { fits = omega (arith, keyWeight-shifted (c .args .i), keyWeight-most (c .args .i)) }
 
 returns : tie.Need-returns
 returns c = keyWeight-shifted (c .args .i)
@@ -14,4 +19,5 @@ key-weight-spec =
     (λ c. search needs)  -- sub-result
     (λ c. search needs)  -- cast-result
     (λ c. search needs)  -- shl-result
+    add-result
     returns)

@@ -4,7 +4,7 @@ use Prim.Native.Nat.{ℕ, zero, suc, _*_, _<_}
 use mathlib.Core.Path.{_≡_, refl, _∙_}
 use mathlib.Core.Bool.{Bool, true, false}
 use mathlib.Core.List.{List}
-use mathlib.Core.Option.{none, some, orElse, Option·map}
+use mathlib.Core.Option.{none, some, Option·map}
 use native.Mathlib.Omega.{arith}
 use borrow.Author.Needs.{needs}
 use lib.ListN.{replicate, set}
@@ -12,8 +12,9 @@ use Rattle.refusal.specs.Limits.{groupMax}
 use Rattle.lists.specs.UpTo.{upTo}
 use Rattle.lists.specs.Occurs.{occurs}
 use Rattle.filling.specs.Filling.{placeBy}
-use Rattle.filling.specs.Least.{beginning, leastFrom, least}
-use Rattle.filling.specs.Taken.{sequenceTaken}
+use Rattle.filling.specs.Least.{beginning}
+use Rattle.filling.specs.Order.{ones}
+use Rattle.filling.specs.Taken.{fewerOnes, takenFrom, sequenceTaken}
 use Rattle.filling.specs.Word.{choiceNumber, wordOf}
 use Rattle.places.specs.Array.{entryOf, Candidates, keysOf}
 use Rattle.sequence.proofs.worked.word_of_two_fillings.Statement.{statement}
@@ -35,7 +36,7 @@ candidates = record { size = refl; below = below }
     below (suc (suc i)) lt choice = absurd (omega arith)
 
 computed : Option·map wordOf (sequenceTaken (keysOf 2 places)) ≡ some 2
-unfolding upTo entryOf keysOf sequenceTaken least leastFrom beginning orElse occurs placeBy wordOf choiceNumber
+unfolding upTo entryOf keysOf sequenceTaken takenFrom beginning fewerOnes ones occurs placeBy wordOf choiceNumber
 computed = refl
 
 same : {x y : ℕ} → some x ≡ some y → x ≡ y
