@@ -21,14 +21,16 @@ fn place(tags: &[u32], limit: u32) {
     report::words(b"\n");
 }
 
-// Groups that a mistaken search gets wrong: two chains that pass a tag twice; an eviction that does not end with the least sequence;
-// two least sequences that are not the numerically least word; a tag with equal places; an insertion that needs every eviction.
+// Groups that a mistaken search gets wrong: two chains that pass a tag twice; an eviction that does not end with the sequence taken;
+// two tags of which the lower decides, so that the word is not the numerically least; a last tag whose first place is taken and
+// second free, with fewer ones where others move, and with as many; a tag with equal places; an insertion that needs every eviction.
 fn traps() {
     place(&[13, 57, 61], 9);
     place(&[81, 134, 298, 325], 1);
     place(&[14, 337764173, 964266638, 2787973142], 9);
     place(&[599, 1193], 1);
     place(&[1, 2, 12], 1);
+    place(&[1, 5, 6, 11], 1);
     place(&[24, 1445023297], 1);
     place(&[6, 8, 33, 37, 39, 55], 99);
     place(&[61, 152], 1);
@@ -158,6 +160,47 @@ fn path() {
             1618,
             1681,
             1705,
+        ],
+        1,
+    );
+}
+
+// 32 tags of which the last one decides: its second place would be a second one besides that of tag 58, where that of tag 37 alone suffices.
+fn last_of_32() {
+    place(
+        &[
+            37,
+            58,
+            59,
+            60,
+            61,
+            62,
+            63,
+            65,
+            66,
+            67,
+            68,
+            69,
+            70,
+            71,
+            72,
+            73,
+            74,
+            75,
+            76,
+            77,
+            78,
+            79,
+            81,
+            82,
+            83,
+            86,
+            87,
+            88,
+            91,
+            97,
+            106,
+            174,
         ],
         1,
     );
@@ -340,6 +383,7 @@ fn main() {
     traps();
     limits();
     sizes();
+    last_of_32();
     path();
     path_to_be_moved_along();
     lollipop();

@@ -129,6 +129,14 @@ fn seeds() {
     write(b"group 1 not served", &[1, 3, 4, 12], 2, 1, 0, 0);
     write(b"neither served", &[1, 3, 4, 12], 2, 0, 0, 0);
     write(b"tags with the same two places", &[599, 1193], 1, 0, 0, 0);
+    write(
+        b"fewest second places under a later seed",
+        &[1, 2, 12],
+        1,
+        11,
+        0,
+        0,
+    );
     write(b"no tags", &[], 3, 7, 65535, 0);
     write(b"one tag, and two empty groups", &[2], 3, 9, 8, 7);
     write(b"two empty groups and one tag", &[13], 3, 1, 2, 3);

@@ -78,7 +78,7 @@ fewerOnes-better P nil (some cs) none h₀ h₁ = (
     | true ∷ ds ↦ λ p. absurd (h₁ ds p)
   ],
 )
-fewerOnes-better P nil (some cs) (some es) h₀ h₁ = go (ltb (ones (true ∷ es)) (ones (false ∷ cs))) refl
+fewerOnes-better P nil (some cs) (some es) h₀ h₁ = go _ refl
   where
     go : (b : Bool) → ltb (ones (true ∷ es)) (ones (false ∷ cs)) ≡ b
         → FirstOf NotAfter P (cond b (some (true ∷ es)) (some (false ∷ cs)))
