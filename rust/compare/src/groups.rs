@@ -279,7 +279,7 @@ fn due_at_once(tally: &mut Tally) {
 pub type Key = [usize; 2];
 
 /// A path from the place 0, which its first tag has to itself.
-fn path(n: usize) -> Vec<Key> {
+pub fn path(n: usize) -> Vec<Key> {
     (0..n).map(|i| [i.saturating_sub(1), i]).collect()
 }
 
@@ -290,7 +290,7 @@ fn path_to_be_moved_along(n: usize) -> Vec<Key> {
     keys
 }
 
-fn cycle(n: usize) -> Vec<Key> {
+pub fn cycle(n: usize) -> Vec<Key> {
     (0..n).map(|i| [i, (i + 1) % n]).collect()
 }
 
@@ -314,7 +314,7 @@ fn lollipop(n: usize) -> Vec<Key> {
 }
 
 /// Two tags on the same two places, again and again; an odd one has a place to itself.
-fn double_edges(n: usize) -> Vec<Key> {
+pub fn double_edges(n: usize) -> Vec<Key> {
     (0..n)
         .map(|i| [i / 2 * 2, (i / 2 * 2 + 1).min(n - 1)])
         .collect()
@@ -331,12 +331,12 @@ fn star(n: usize) -> Vec<Key> {
 }
 
 /// A function from places to places: each part has one cycle.
-fn function(random: &mut Random, n: usize) -> Vec<Key> {
+pub fn function(random: &mut Random, n: usize) -> Vec<Key> {
     (0..n).map(|place| [place, random.below(n)]).collect()
 }
 
 /// Parts of one to eight tags, each a shape of its own.
-fn several_parts(random: &mut Random, n: usize) -> Vec<Key> {
+pub fn several_parts(random: &mut Random, n: usize) -> Vec<Key> {
     let mut keys = Vec::new();
     while keys.len() < n {
         let from = keys.len();
