@@ -1,8 +1,8 @@
 //! Runs cases against the model of the papers: the proved functions over the C boundary, answers
 //! and every lent cell and byte, the binding's `Index`, `Plan` and `TaglessIndex`, and the index printer.
 //!
-//!     compare                  a million answers and more, under a minute
-//!     compare --long           more than ten million, and many more lists
+//!     compare                  ten million answers and more, under a minute
+//!     compare --long           more than twenty million, and many more lists
 //!     compare --small          few cases, in memory of just the right size: for a memory checker
 //!     compare --tagless        the cases of the index without tags alone
 //!     compare --stored         the stored outputs of the program crates, printed again from the model
@@ -123,7 +123,7 @@ const USUAL: Size = Size {
     many_groups: 40,
     words: 24,
     least: Least {
-        answers: 1_000_000,
+        answers: 10_000_000,
         large: 1_000,
         words: 100_000,
         choices: 100_000,
@@ -148,11 +148,11 @@ const LONG: Size = Size {
     shapes: 40,
     groups: 400,
     every_pair: 5,
-    choices: 2100,
+    choices: 2_100,
     many_groups: 400,
     words: 240,
     least: Least {
-        answers: 10_000_000,
+        answers: 20_000_000,
         large: 10_000,
         words: 1_000_000,
         choices: 1_000_000,
