@@ -2,6 +2,7 @@
 //!
 //!     bench                                   all tables; it runs the repository's target/bin/printer
 //!     bench --printer PATH                    the same with another printer
+//!     bench --slot-lines                      the table of slot lines read by a hit alone
 //!     bench --tagless                         the tables of the index without tags alone
 //!     bench --plots DIR                       the growth tables, and DIR/growth-*.svg
 //!     bench --count CASE VERSION REPETITIONS  one case, for counting instructions; `--count` alone names the cases
@@ -12,6 +13,7 @@ mod count;
 mod growth;
 mod plain;
 mod plot;
+mod slot_lines;
 mod tables;
 mod tagless;
 mod timing;
@@ -37,6 +39,7 @@ fn main() -> ExitCode {
             tables::print(printer);
             growth::print();
         }
+        ["--slot-lines"] => slot_lines::print(),
         ["--tagless"] => tagless::print(),
         ["--print"] => {
             if let Err(error) = print_index() {
@@ -58,7 +61,7 @@ fn main() -> ExitCode {
             }
         }
         _ => {
-            eprintln!("usage: bench [--printer PATH | --tagless | --plots DIR | --count [CASE VERSION REPETITIONS] | --print]");
+            eprintln!("usage: bench [--printer PATH | --slot-lines | --tagless | --plots DIR | --count [CASE VERSION REPETITIONS] | --print]");
             return ExitCode::from(2);
         }
     }

@@ -2,6 +2,7 @@
 //! time, with its results asserted.
 
 use crate::cases::{self, Case, Groups, LIMIT};
+use crate::slot_lines;
 use crate::tagless;
 use crate::timing::{measure, median, print as print_samples, time, Sample, Timed, REPETITIONS};
 use crate::versions::{Version, BOTH};
@@ -70,6 +71,7 @@ pub fn print(printer: &Path) {
             median(&proved.ratios(plain))
         );
     }
+    slot_lines::print();
     tagless::print_beside(&without_tags);
     tagless::print_sizes(&built);
 }
@@ -339,8 +341,8 @@ fn print_index(case: &Case, printer: &Path) -> Row {
     )
 }
 
-/// What stands in a cell before a placing. No group has this word: the lowest tag of a cycle has
-/// choice 0.
+/// What stands in a cell before a placing. No group has this word: there is a cycle, and turned round
+/// it has no ones.
 const NO_WORD: [u32; 1] = [u32::MAX];
 
 /// The time of so many passes over the groups.

@@ -37,6 +37,14 @@ pub const ALL_KINDS_OF_BITS: [u32; 32] = [
     501, 522, 557, 590, 594, 626, 635, 652, 670, 675, 705, 721,
 ];
 
+/// Served by seed 0 with the word 543,846,675; the lowest tag alone would decide for 2,758,436,883. In a
+/// cycle of five there are two ones, or three if that of the last tag, bit 31, is counted; in three
+/// cycles of two there is one either way, and the lowest tag decides. Two tags have equal places.
+pub const FEWEST_SECOND_PLACES: [u32; 32] = [
+    18, 38, 68, 107, 111, 128, 133, 159, 181, 197, 225, 229, 234, 272, 297, 332, 341, 368, 393,
+    439, 468, 484, 518, 521, 535, 550, 579, 582, 593, 620, 636, 666,
+];
+
 /// The lowest tags of which seed 0 serves 25, and those of which it serves 32. The word of the 32 has
 /// bit 31: 2,147,501,333.
 pub const CLOSE_25: [u32; 25] = [
@@ -152,6 +160,7 @@ fn constants(tally: &mut Tally) {
         (LOLLIPOP, 2_147_483_646),
         (ALL_KINDS_OF_BITS, 2_407_770_217),
         (CLOSE_32, 2_147_501_333),
+        (FEWEST_SECOND_PLACES, 543_846_675),
     ] {
         for limit in [1, 2, 65_536] {
             for cell in CELLS {
@@ -279,7 +288,7 @@ fn due_at_once(tally: &mut Tally) {
 pub type Key = [usize; 2];
 
 /// A path from the place 0, which its first tag has to itself.
-fn path(n: usize) -> Vec<Key> {
+pub fn path(n: usize) -> Vec<Key> {
     (0..n).map(|i| [i.saturating_sub(1), i]).collect()
 }
 
@@ -290,7 +299,7 @@ fn path_to_be_moved_along(n: usize) -> Vec<Key> {
     keys
 }
 
-fn cycle(n: usize) -> Vec<Key> {
+pub fn cycle(n: usize) -> Vec<Key> {
     (0..n).map(|i| [i, (i + 1) % n]).collect()
 }
 
@@ -314,7 +323,7 @@ fn lollipop(n: usize) -> Vec<Key> {
 }
 
 /// Two tags on the same two places, again and again; an odd one has a place to itself.
-fn double_edges(n: usize) -> Vec<Key> {
+pub fn double_edges(n: usize) -> Vec<Key> {
     (0..n)
         .map(|i| [i / 2 * 2, (i / 2 * 2 + 1).min(n - 1)])
         .collect()
@@ -331,12 +340,12 @@ fn star(n: usize) -> Vec<Key> {
 }
 
 /// A function from places to places: each part has one cycle.
-fn function(random: &mut Random, n: usize) -> Vec<Key> {
+pub fn function(random: &mut Random, n: usize) -> Vec<Key> {
     (0..n).map(|place| [place, random.below(n)]).collect()
 }
 
 /// Parts of one to eight tags, each a shape of its own.
-fn several_parts(random: &mut Random, n: usize) -> Vec<Key> {
+pub fn several_parts(random: &mut Random, n: usize) -> Vec<Key> {
     let mut keys = Vec::new();
     while keys.len() < n {
         let from = keys.len();

@@ -1,8 +1,8 @@
 //! Runs cases against the model of the papers: the proved functions over the C boundary, answers
 //! and every lent cell and byte, the binding's `Index`, `Plan` and `TaglessIndex`, and the index printer.
 //!
-//!     compare                  a million answers and more, under a minute
-//!     compare --long           more than ten million, and many more lists
+//!     compare                  ten million answers and more, under a minute
+//!     compare --long           more than twenty million, and many more lists
 //!     compare --small          few cases, in memory of just the right size: for a memory checker
 //!     compare --tagless        the cases of the index without tags alone
 //!     compare --stored         the stored outputs of the program crates, printed again from the model
@@ -12,6 +12,7 @@
 //! `--seed NUMBER` takes other random cases, `--printer PATH` another printer than the repository's
 //! `target/bin/printer`, `--no-printer` none. The first difference ends the run with status 1.
 
+mod choices;
 mod groups;
 mod images;
 mod lists;
@@ -61,6 +62,10 @@ pub struct Size {
     /// Rounds of all shapes of groups, and of random groups, of each size.
     shapes: usize,
     groups: usize,
+    /// For the order of choices: the sizes of which a group is placed for every sequence of pairs of
+    /// places, from 1 on, and rounds of all shapes.
+    every_pair: usize,
+    choices: usize,
     /// For the index without tags: rounds of lists of many groups, and of groups of each size and kind.
     many_groups: usize,
     words: usize,
@@ -84,12 +89,15 @@ const SMALL: Size = Size {
     printed: 0,
     shapes: 1,
     groups: 1,
+    every_pair: 3,
+    choices: 1,
     many_groups: 1,
     words: 1,
     least: Least {
         answers: 1_000,
         large: 100,
         words: 1_000,
+        choices: 100,
     },
 };
 
@@ -110,12 +118,15 @@ const USUAL: Size = Size {
     printed: 12,
     shapes: 4,
     groups: 40,
+    every_pair: 5,
+    choices: 210,
     many_groups: 40,
     words: 24,
     least: Least {
-        answers: 1_000_000,
+        answers: 10_000_000,
         large: 1_000,
         words: 100_000,
+        choices: 100_000,
     },
 };
 
@@ -136,12 +147,15 @@ const LONG: Size = Size {
     printed: 100,
     shapes: 40,
     groups: 400,
+    every_pair: 5,
+    choices: 2_100,
     many_groups: 400,
     words: 240,
     least: Least {
-        answers: 10_000_000,
+        answers: 20_000_000,
         large: 10_000,
         words: 1_000_000,
+        choices: 1_000_000,
     },
 };
 
@@ -258,6 +272,7 @@ fn compare(options: &Options) -> bool {
     texts::compare(&mut tally, &mut random, size);
     images::compare(&mut tally, &mut random, size);
     groups::compare(&mut tally, &mut random, size);
+    choices::compare(&mut tally, &mut random, size);
     widths::compare(&mut tally, &mut random);
     tagless::compare(&mut tally, &mut random, size);
     if let Some(printer) = &options.printer {

@@ -11,8 +11,8 @@ use model::placing::{serves, LARGEST_GROUP};
 use random::Random;
 
 use crate::groups::{
-    filled_under, shaped, shapes, two_on_place_0, without_place_0, ALL_KINDS_OF_BITS, LAST_SEED,
-    LOLLIPOP, PATH, PATH_TO_BE_MOVED_ALONG,
+    filled_under, shaped, shapes, two_on_place_0, without_place_0, ALL_KINDS_OF_BITS,
+    FEWEST_SECOND_PLACES, LAST_SEED, LOLLIPOP, PATH, PATH_TO_BE_MOVED_ALONG,
 };
 use crate::lists::{
     behind_0, different, full, large, overfull, structured, tag_of_group, tags_of_group, Case,
@@ -361,12 +361,14 @@ fn seeds_of_groups(tally: &mut Tally, random: &mut Random, size: &Size) {
         &PATH_TO_BE_MOVED_ALONG,
         &LOLLIPOP,
         &ALL_KINDS_OF_BITS,
+        &FEWEST_SECOND_PLACES,
         &LAST_SEED,
         &without_place_0,
         &two_on_place_0,
         &WITHOUT_PLACE_2,
         &FIVE_ON_FOUR_PLACES,
         &[599, 1_193],
+        &[1, 2, 12],
         &[1, 3],
     ] {
         let case = Case::new(1, 1, tags);

@@ -1,5 +1,6 @@
 //! One case on both sides: calls the library and the model, compares, and counts.
 
+pub mod choices;
 mod words;
 
 use std::collections::{BTreeMap, BTreeSet};
@@ -10,6 +11,7 @@ use model::placing::LARGEST_GROUP;
 use tag_index::{raw, Index, Plan, Reason, Refusal, TaglessIndex, UNKNOWN};
 
 use crate::lists::Case;
+use choices::Choices;
 use words::Words;
 
 /// Bytes behind the buffer that building or writing is lent, which must stay as they are.
@@ -270,6 +272,8 @@ pub struct Least {
     pub large: usize,
     /// Groups of the index without tags.
     pub words: usize,
+    /// Groups made or drawn for the order of choices, besides those of up to five tags.
+    pub choices: u64,
 }
 
 pub struct Tally {
@@ -278,6 +282,14 @@ pub struct Tally {
     answers: [Answers; 10],
     placed: Placed,
     plans: Plans,
+    /// What decided in the groups that were placed, and in those of images written under a plan.
+    choices: Choices,
+    written: Choices,
+    /// Sizes of which a group was placed for every sequence of pairs of places: how many there are, and
+    /// how many some seed serves.
+    every_group: BTreeMap<usize, (u64, u64)>,
+    /// Groups made or drawn for the order of choices.
+    chosen: u64,
     /// Cases with several refusals due at once, by the first two of them in the order written.
     pairs: BTreeMap<(Operation, u32, u32), u64>,
     unwired: Unwired,
@@ -298,6 +310,10 @@ impl Tally {
             answers: Default::default(),
             placed: Placed::default(),
             plans: Plans::default(),
+            choices: Choices::default(),
+            written: Choices::default(),
+            every_group: BTreeMap::new(),
+            chosen: 0,
             pairs: BTreeMap::new(),
             unwired: Unwired::default(),
             indexes: Indexes::default(),
@@ -344,8 +360,25 @@ impl Tally {
         self.count(Operation::Placing, answer);
         if answer >> 32 == 0 {
             self.placed.add(tags, answer, theirs[0]);
+            self.choices.add(tags, answer as u32, theirs[0]);
         }
         (answer, theirs[0])
+    }
+
+    /// What decided in the groups placed so far.
+    pub fn choices(&self) -> &Choices {
+        &self.choices
+    }
+
+    /// Counts the groups of a size that were placed for every sequence of pairs of places, and of these
+    /// the ones that some seed serves.
+    pub fn every_group(&mut self, n: usize, groups: u64, served: u64) {
+        self.every_group.insert(n, (groups, served));
+    }
+
+    /// Counts groups made or drawn for the order of choices.
+    pub fn chosen(&mut self, groups: u64) {
+        self.chosen += groups;
     }
 
     /// Counts a group that was made for a seed, if placing answered that seed.
@@ -413,16 +446,16 @@ impl Tally {
             let groups = plan[0] as usize;
             self.plans.high_behind +=
                 u64::from(plan[1 + groups..].iter().any(|&seed| seed > 65_535));
-            // An empty group with a seed: each tag of the list is in another group.
             let tags = model::read_list(text, usize::MAX).map_or(Vec::new(), |list| list.tags);
-            let occupied: BTreeSet<u32> = tags
-                .iter()
-                .map(|&tag| model::hash::group_of(tag, plan[0]))
-                .collect();
+            let members = model::planning::members(&tags, plan[0]).expect("both sides wrote it");
+            let seeds = &plan[1..=groups];
             self.plans.empty_group += u64::from(
-                (0..plan[0])
-                    .any(|group| plan[1 + group as usize] != 0 && !occupied.contains(&group)),
+                (members.iter().zip(seeds)).any(|(part, &seed)| part.is_empty() && seed != 0),
             );
+            for (part, &seed) in members.iter().zip(seeds) {
+                let word = model::placing::word_taken(part, seed).expect("both sides wrote it");
+                self.written.add(part, seed, word);
+            }
         }
         answer
     }
@@ -749,6 +782,23 @@ impl Tally {
         }
     }
 
+    /// Prints what decided between sequences of choices, and says whether there was enough: of groups, of
+    /// several sequences with the fewest ones, and of others than the lowest tag alone decides for, of 32
+    /// tags too, in placing and in writing.
+    fn report_choices(&self, least: u64) -> bool {
+        for (n, (groups, served)) in &self.every_group {
+            println!("            of {n} tags, every sequence of pairs of places: {groups} groups, {served} of them served");
+        }
+        let chosen = self.chosen;
+        println!("            of groups made or drawn for the order of choices: {chosen}");
+        if chosen < least {
+            println!("compare: fewer than {least} groups for the order of choices");
+        }
+        chosen >= least
+            && !self.every_group.is_empty()
+            && self.choices.report("placing") & self.written.report("writing")
+    }
+
     /// Prints the counts of what came of plans, and says whether all came, and every pair of refusals due
     /// at once.
     fn report_plans(&self) -> bool {
@@ -828,6 +878,7 @@ impl Tally {
             }
         }
         complete &= self.placed.report(least.large) && self.report_plans();
+        complete &= self.report_choices(least.choices);
         complete &= self.unwired.report("") & self.indexes.report("Index");
         complete &= self.words.report(least.words);
         complete &= self.tagless_unwired.report(" without tags");

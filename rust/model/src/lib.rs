@@ -1,13 +1,14 @@
 //! The model: document 01, "The two-choice tag index", in plain Rust, to be read beside the paper,
-//! with what document 02, §1 to §3 and §5, change in it: nobody has tag 0, a group may hold 32 tags,
-//! building is planning and writing in turn, and there is an index without tags beside the other. Where
-//! §2 has another number than the sentence that is quoted, it stands in square brackets.
+//! with what document 02, §1 to §3, §5 and §6, change in it: nobody has tag 0, a group may hold 32 tags,
+//! building is planning and writing in turn, there is an index without tags beside the other, and of the
+//! choice sequences that fill a group the one with the fewest second places is taken. Where §2 has
+//! another number than the sentence that is quoted, it stands in square brackets.
 //!
 //! It is written from the papers alone and shares no code with the proved crates, so that a
 //! program can run both and compare. Where the papers leave the method open, the model takes
-//! another one than the proved crates: connected parts decide whether a seed serves a group,
-//! matching finds the least choice sequence, and columns find the least word. A module is one
-//! concept, in the paper's order.
+//! another one than the proved crates: connected parts decide whether a seed serves a group, all
+//! sequences of each part are listed to find the one that is taken, and columns find the least word of
+//! the index without tags. A module is one concept, in the paper's order.
 
 #![forbid(unsafe_code)]
 

@@ -1,4 +1,5 @@
-//! Placing one group: the first seed that serves it, and the least choice sequence under it.
+//! Placing one group: the first seed that serves it, and of the choice sequences that fill it the one
+//! with the fewest second places.
 
 use crate::hash::place_of;
 use crate::refusal::{refuse, refuse_at, Refusal};
@@ -33,7 +34,7 @@ pub fn place_group(tags: &[u32], limit: u32) -> Result<(u32, u32), Refusal> {
     match first_seed(tags, limit) {
         None => refuse(7),
         Some(seed) => {
-            let word = least_word(tags, seed).expect("connected parts and matching agree");
+            let word = word_taken(tags, seed).expect("a seed that serves has a filling sequence");
             Ok((seed, word))
         }
     }
@@ -133,59 +134,117 @@ impl Parts {
     }
 }
 
-/// The choice word of the least filling sequence, or nothing if none fills the group.
+/// The choice word of the filling sequence that is taken, or nothing if none fills the group.
 ///
-/// "Among filling sequences the least is taken, compared from the lowest tag on, 0 before 1. The
-/// choice word has bit i equal to the choice of the tag with index i; all higher bits are 0." In a
-/// group of 32 tags "the choice word uses all 32 bits" (document 02, §2).
-///
-/// Each choice is fixed in turn: 0 if the tags that follow can still be matched to free places,
-/// otherwise 1.
-pub fn least_word(tags: &[u32], seed: u32) -> Option<u32> {
+/// "Among the sequences that fill a group under its least seed, the one with the fewest ones is now
+/// taken, and only between equals does the lowest tag decide, 0 before 1. Writing follows the rule too"
+/// (document 02, §6), under whatever seed the plan has. "The choice word has bit i equal to the choice
+/// of the tag with index i; all higher bits are 0." In a group of 32 tags "the choice word uses all 32
+/// bits" (document 02, §2).
+pub fn word_taken(tags: &[u32], seed: u32) -> Option<u32> {
     let n = tags.len();
-    let places: Vec<[usize; 2]> = tags.iter().map(|&tag| both_places(n, seed, tag)).collect();
-    let mut taken = vec![false; n];
+    let mut room = [[0; 2]; LARGEST_GROUP];
+    let pairs = &mut room[..n];
+    for (pair, &tag) in pairs.iter_mut().zip(tags) {
+        *pair = both_places(n, seed, tag);
+    }
+    word_of_pairs(pairs)
+}
+
+/// The same for at most 32 tags that have these pairs of places, all below 32. There may be more places
+/// than tags: then some stay free.
+///
+/// Tags of different connected parts never meet, so each part is decided alone. The ones of a sequence
+/// are those of its parts added up, so it has the fewest exactly if each part has. The lowest tag on
+/// which two sequences differ lies in one part and is the lowest of that part on which they do, so it
+/// decides there what it decides in the whole.
+pub fn word_of_pairs(pairs: &[[usize; 2]]) -> Option<u32> {
     let mut word = 0;
-    for (index, candidates) in places.iter().enumerate() {
-        let choice = (0..2).find(|&choice| {
-            let mut with_this = taken.clone();
-            with_this[candidates[choice]] = true;
-            !taken[candidates[choice]] && can_be_matched(&places[index + 1..], &with_this)
-        })?;
-        taken[candidates[choice]] = true;
-        word |= (choice as u32) << index;
+    let mut decided = 0u32;
+    for tag in 0..pairs.len() {
+        if decided >> tag & 1 == 0 {
+            let part = Part::around(tag, pairs);
+            decided |= part.members;
+            word |= part.word_taken(pairs)?;
+        }
     }
     Some(word)
 }
 
-/// Whether every one of these tags can have one of its two places for itself, outside the taken
-/// ones: bipartite matching by augmenting paths.
-fn can_be_matched(tags: &[[usize; 2]], taken: &[bool]) -> bool {
-    let mut holder = vec![None; taken.len()];
-    (0..tags.len()).all(|tag| find_place(tag, tags, &mut taken.to_vec(), &mut holder))
+/// What is compared of two sequences, as words: the one for which this is less is taken. Bit 0, the
+/// choice of the lowest tag, counts most among equals.
+fn order(word: u32) -> (u32, u32) {
+    (word.count_ones(), word.reverse_bits())
 }
 
-/// Finds a place for one tag along an augmenting path: a free place, or one whose holder finds
-/// another. `closed` marks the places taken for good and those that this path has visited.
-fn find_place(
-    tag: usize,
-    tags: &[[usize; 2]],
-    closed: &mut [bool],
-    holder: &mut [Option<usize>],
-) -> bool {
-    for place in tags[tag] {
-        if closed[place] {
-            continue;
-        }
-        closed[place] = true;
-        let free = match holder[place] {
-            None => true,
-            Some(other) => find_place(other, tags, closed, holder),
+/// The tags of a connected part, in an order in which each meets a place of some tag before it. Bit i of
+/// `members` is the tag with index i.
+struct Part {
+    tags: [usize; LARGEST_GROUP],
+    count: usize,
+    members: u32,
+}
+
+impl Part {
+    /// The part of a tag.
+    fn around(tag: usize, pairs: &[[usize; 2]]) -> Part {
+        let mut part = Part {
+            tags: [0; LARGEST_GROUP],
+            count: 0,
+            members: 0,
         };
-        if free {
-            holder[place] = Some(tag);
-            return true;
+        let mut reached = 0u32;
+        let mut next = Some(tag);
+        while let Some(tag) = next {
+            part.tags[part.count] = tag;
+            part.count += 1;
+            part.members |= 1 << tag;
+            reached |= places_of(pairs[tag]);
+            next = (0..pairs.len()).find(|&other| {
+                part.members >> other & 1 == 0 && places_of(pairs[other]) & reached != 0
+            });
+        }
+        part
+    }
+
+    /// The first in order of all sequences that give the tags of this part different places; the choices
+    /// of other tags are 0. Nothing if there is no such sequence.
+    fn word_taken(&self, pairs: &[[usize; 2]]) -> Option<u32> {
+        let mut first = None;
+        list_sequences(&self.tags[..self.count], pairs, 0, 0, &mut |word| {
+            if first.is_none_or(|other| order(word) < order(other)) {
+                first = Some(word);
+            }
+        });
+        first
+    }
+}
+
+/// A pair of places as a word, with one bit or two.
+fn places_of([first, second]: [usize; 2]) -> u32 {
+    1 << first | 1 << second
+}
+
+/// Lists, by backtracking, each sequence that continues `word` by choices of these tags that give them
+/// different places outside the taken ones.
+///
+/// There are few, since each tag meets one before it: k tags of a part reach k + 1 places at most. If
+/// they reach k + 1, a sequence is known by the place that it leaves free; if k, it leaves none, and the
+/// two ways round the one cycle are all there is; fewer are too few.
+fn list_sequences(
+    tags: &[usize],
+    pairs: &[[usize; 2]],
+    taken: u32,
+    word: u32,
+    listed: &mut impl FnMut(u32),
+) {
+    let Some((&tag, following)) = tags.split_first() else {
+        return listed(word);
+    };
+    for (choice, place) in pairs[tag].into_iter().enumerate() {
+        if taken >> place & 1 == 0 {
+            let word = word | (choice as u32) << tag;
+            list_sequences(following, pairs, taken | 1 << place, word, listed);
         }
     }
-    false
 }

@@ -3,7 +3,7 @@
 use crate::hash::place_of;
 use crate::image::image_length;
 use crate::line::{line_of_tag, line_of_two};
-use crate::placing::{least_word, serves};
+use crate::placing::{serves, word_taken};
 use crate::planning::{examine_group_count, examine_tags, members, Plan};
 use crate::refusal::{refuse, refuse_at, Refusal};
 
@@ -45,7 +45,8 @@ fn lay_out(members: &[Vec<u32>], seeds: &[u32]) -> Vec<u8> {
     for (part, &seed) in members.iter().zip(seeds) {
         // "The start of a group is the number of tags in lower groups."
         group_lines.push((slots.len(), seed));
-        let word = least_word(part, seed).expect("connected parts and matching agree");
+        // "Writing follows the rule too" (document 02, §6), under a seed that is not the least as well.
+        let word = word_taken(part, seed).expect("a seed that serves has a filling sequence");
         slots.extend(by_place(part, seed, word));
     }
 

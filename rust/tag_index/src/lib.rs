@@ -276,7 +276,8 @@ pub struct Placement {
     pub seed: u32,
     /// The choice word: bit i, counted from the lowest, is the choice of the tag with index i, 0 for
     /// its first place and 1 for its second. The bits behind the last tag are 0. Of the sequences of
-    /// choices that serve it is the least, compared from the lowest tag on.
+    /// choices that serve, the one with the fewest second places is taken; only between equals does the
+    /// lowest tag on which they differ decide, and has its first place.
     pub word: u32,
 }
 
@@ -292,6 +293,9 @@ pub struct Placement {
 /// // The tag with index 1 takes its second place.
 /// let choices = [0, 1].map(|index| placement.word >> index & 1);
 /// assert_eq!(choices, [0, 1]);
+/// // One second place, though the lowest tag has it: without it both others would have theirs.
+/// let placement = tag_index::place_group(&[1, 2, 12], 1)?;
+/// assert_eq!(placement, Placement { seed: 0, word: 1 });
 ///
 /// // No seed below L = 1 serves the group of 1 and 3.
 /// let refusal = tag_index::place_group(&[1, 3], 1).unwrap_err();

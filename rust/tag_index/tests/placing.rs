@@ -43,6 +43,23 @@ fn the_last_of_32_tags_has_bit_31() {
 }
 
 #[test]
+fn the_fewest_second_places_are_taken_and_between_equals_the_lowest_tag_decides() {
+    for (tags, word) in [
+        // The words 1 and 6 fill them: one second place, though the lowest tag has it.
+        (&[1, 2, 12][..], 0b001),
+        // 1 and 2, with one second place each.
+        (&[599, 1_193], 0b10),
+        // 5, 14, 17 and 26: of 5 and 17 the one that gives the tag with index 2 its first place.
+        (&[18, 44, 56, 59, 145], 0b10001),
+        // Tag 1 has one place only.
+        (&[1, 2], 0b00),
+    ] {
+        let placement = Placement { seed: 0, word };
+        assert_eq!(tag_index::place_group(tags, 1), Ok(placement));
+    }
+}
+
+#[test]
 fn no_two_tags_of_a_group_have_the_same_place() {
     for n in 0..=LARGEST_GROUP {
         let tags: Vec<u32> = (1..=n as u32).map(|step| step * step * 104_729).collect();

@@ -27,21 +27,24 @@ fn place_of(n: usize, seed: u32, choice: u32, tag: u32) -> usize {
     ((u64::from(multiplier.wrapping_mul(tag)) * n as u64) >> 32) as usize
 }
 
-/// The least choice sequence that fills a group under the seed, found by trying all of them.
-fn least_sequence(tags: &[u32], seed: u32) -> Option<Vec<u32>> {
+/// The choice sequence that is taken for a group under the seed, found by trying all of them: of those
+/// that fill the one with the fewest second places, and between equals the one that gives the lowest tag
+/// on which they differ its first.
+fn sequence_taken(tags: &[u32], seed: u32) -> Option<Vec<u32>> {
     let n = tags.len();
-    (0..1u32 << n)
-        // The choice of the lowest tag counts most.
-        .map(|word| (0..n).rev().map(|bit| word >> bit & 1).collect())
-        .find(|choices: &Vec<u32>| {
-            let mut places: Vec<usize> = tags
-                .iter()
-                .zip(choices)
-                .map(|(&tag, &choice)| place_of(n, seed, choice, tag))
-                .collect();
-            places.sort_unstable();
-            places.into_iter().eq(0..n)
-        })
+    let mut sequences: Vec<Vec<u32>> = (0..1u32 << n)
+        .map(|word| (0..n).map(|bit| word >> bit & 1).collect())
+        .collect();
+    sequences.sort_by_key(|choices| (choices.iter().sum::<u32>(), choices.clone()));
+    sequences.into_iter().find(|choices| {
+        let mut places: Vec<usize> = tags
+            .iter()
+            .zip(choices)
+            .map(|(&tag, &choice)| place_of(n, seed, choice, tag))
+            .collect();
+        places.sort_unstable();
+        places.into_iter().eq(0..n)
+    })
 }
 
 /// Document 02, §3: the image of the tags under the plan's B and seeds, or the lowest group that no
@@ -53,7 +56,7 @@ fn stated(tags: &[u32], seeds: &[u32]) -> Result<Vec<u8>, u32> {
     for (group, &seed) in (0..groups).zip(seeds) {
         let mut part = tags.to_vec();
         part.retain(|&tag| group_of(tag, groups) == group);
-        let choices = least_sequence(&part, seed).ok_or(group)?;
+        let choices = sequence_taken(&part, seed).ok_or(group)?;
         let start = slots.len();
         group_lines += &format!("{start:>5}{seed:>5}\n");
         slots.resize(start + part.len(), 0);
@@ -144,6 +147,22 @@ fn a_list_under_the_plan_of_another_is_written_or_refused_with_18() {
     // Both came often, and 18 at every group.
     assert!(written > 9, "{written}");
     assert!(refused.iter().all(|&count| count > 9), "{refused:?}");
+}
+
+#[test]
+fn writing_takes_the_fewest_second_places_under_any_seed_of_a_plan() {
+    // Under seed 0 the first tag alone takes its second place, or both others do.
+    let image = tag_index::image_under(&[1, 2, 12], &plan_of(1, &[0])).unwrap();
+    let slots = b"         2\n        12\n         1\n";
+    assert_eq!(image[22..], *slots);
+    for first in 1..=40 {
+        let tags: Vec<u32> = (1..=6).map(|step| step * first * 7_919).collect();
+        for seed in (0..20).chain([65_535]) {
+            let answer = tag_index::image_under(&tags, &plan_of(1, &[seed]));
+            let refused = |group| refusal(Reason::SeedDoesNotServe, group);
+            assert_eq!(answer, stated(&tags, &[seed]).map_err(refused));
+        }
+    }
 }
 
 #[test]

@@ -124,6 +124,31 @@ fn groups_of_every_size() {
     }
 }
 
+/// Groups that have several filling sequences under a seed, and under others: the one that is taken.
+#[test]
+fn small_groups_under_many_seeds() {
+    let mut random = Random::new(9);
+    let mut served = 0;
+    for _ in 0..3_000 {
+        let count = 2 + random.below(9);
+        let tags = match random.below(3) {
+            0 => random.multiples(count, 1 << 26),
+            1 => (1 + random.below(999) as u32..).take(count).collect(),
+            _ => random.tags(count),
+        };
+        placed(&tags, 65_536);
+        let text = list_text(1, 1, &tags);
+        let mut plan = [0; PLAN_CELLS];
+        plan[0] = 1;
+        for seed in 0..20 {
+            plan[1] = seed;
+            let answer = written(&text, &plan, 11 * (2 + count));
+            served += u32::from(answer >> 32 == 0);
+        }
+    }
+    assert!(served > 9_000, "{served}");
+}
+
 #[test]
 fn many_tags() {
     let mut random = Random::new(3);

@@ -67,7 +67,7 @@ fn one_group(tally: &mut Tally, random: &mut Random, tags: &[u32]) {
 
 /// So many multiples of a power of two, whose rows leave the lower bits of the word without effect; and
 /// tags that are the same but for such multiples.
-fn multiples(random: &mut Random, n: usize) -> Vec<(&'static str, Vec<u32>)> {
+pub fn multiples(random: &mut Random, n: usize) -> Vec<(&'static str, Vec<u32>)> {
     let shift = random.within(1, 31);
     let far = different(n, || (random.tag() >> shift) << shift);
     let few = random.within(20, 27) as u32;

@@ -12,7 +12,7 @@ use crate::lists::{absent_tags, Case};
 use crate::tally::Tally;
 use crate::Size;
 
-pub use groups::{CLOSE_32_WITH_A_WORD, ROWS_THAT_CANCEL_OUT, SERVED_WITHOUT_A_WORD};
+pub use groups::{multiples, CLOSE_32_WITH_A_WORD, ROWS_THAT_CANCEL_OUT, SERVED_WITHOUT_A_WORD};
 
 pub fn compare(tally: &mut Tally, random: &mut Random, size: &Size) {
     lists::compare(tally, random, size);

@@ -44,7 +44,9 @@ pub fn least_word(tags: &[u32], seed: u32) -> Option<u32> {
     if !touches_every_place(tags, seed) || !serves(tags, seed) {
         return None;
     }
-    let filling = placing::least_word(tags, seed).expect("connected parts and matching agree");
+    // Any sequence that fills does; the order in which placing takes one has no part in the word.
+    let filling =
+        placing::word_taken(tags, seed).expect("a seed that serves has a filling sequence");
     let mut made = Made::default();
     for cycle in cycles(tags, seed, filling) {
         made.add(cycle, 0);

@@ -1,21 +1,10 @@
-//! Connected parts and matching against brute force over all sequences, and against each other.
+//! Counting in connected parts and listing their sequences, against brute force over all sequences of the
+//! group and against each other.
 
-use crate::common::{fills, refusal};
+use crate::common::{all_different, fills, in_order, places, refusal, taken_by_brute_force};
 use model::place_group;
-use model::placing::{least_word, serves};
+use model::placing::{serves, word_taken};
 use random::Random;
-
-/// The least filling sequence by trying all 2^n, the lowest tag's choice as the leading digit.
-fn least_by_brute_force(tags: &[u32], seed: u32) -> Option<u32> {
-    let n = tags.len() as u32;
-    (0..1u32 << n)
-        .map(|rank| {
-            (0..n)
-                .map(|index| (rank >> (n - 1 - index) & 1) << index)
-                .sum()
-        })
-        .find(|&word| fills(tags, seed, word))
-}
 
 /// Steps between tags: with a high power of two, equal places and shared pairs are frequent.
 const STEPS: [u32; 4] = [1, 1 << 8, 1 << 26, 1 << 28];
@@ -25,15 +14,20 @@ fn a_seed_serves_a_group_exactly_if_some_sequence_fills_it() {
     let mut random = Random::new(3);
     let (mut served, mut not_served) = (0, 0);
     for n in 0..=12 {
+        let words = in_order(n);
         for step in STEPS {
             for _ in 0..4 {
                 let tags = random.multiples(n, step);
                 let seed = random.below(65_536) as u32;
                 for seed in [0, 1, 2, 3, seed, 65_535] {
-                    let least = least_by_brute_force(&tags, seed);
-                    assert_eq!(serves(&tags, seed), least.is_some(), "{tags:?} {seed}");
-                    assert_eq!(least_word(&tags, seed), least, "{tags:?} {seed}");
-                    *(if least.is_some() {
+                    let pairs = places(&tags, seed);
+                    let taken = words
+                        .iter()
+                        .copied()
+                        .find(|&word| all_different(&pairs, word));
+                    assert_eq!(serves(&tags, seed), taken.is_some(), "{tags:?} {seed}");
+                    assert_eq!(word_taken(&tags, seed), taken, "{tags:?} {seed}");
+                    *(if taken.is_some() {
                         &mut served
                     } else {
                         &mut not_served
@@ -46,15 +40,16 @@ fn a_seed_serves_a_group_exactly_if_some_sequence_fills_it() {
 }
 
 #[test]
-fn placing_finds_the_first_seed_and_least_word_of_brute_force() {
+fn placing_finds_the_first_seed_and_the_word_of_brute_force() {
     let mut random = Random::new(4);
     for n in 0..=9 {
         for step in STEPS {
             for _ in 0..4 {
                 let tags = random.multiples(n, step);
                 let limit = 1 + random.below(40) as u32;
-                let first = (0..limit)
-                    .find_map(|seed| least_by_brute_force(&tags, seed).map(|word| (seed, word)));
+                let first = (0..limit).find_map(|seed| {
+                    taken_by_brute_force(&places(&tags, seed)).map(|word| (seed, word))
+                });
                 assert_eq!(
                     place_group(&tags, limit),
                     first.ok_or(refusal(7, 0)),
@@ -66,7 +61,7 @@ fn placing_finds_the_first_seed_and_least_word_of_brute_force() {
 }
 
 #[test]
-fn in_large_groups_parts_and_matching_agree_and_the_word_fills() {
+fn in_large_groups_counting_and_listing_agree_and_the_word_fills() {
     let mut random = Random::new(5);
     let mut served = 0;
     for n in 13..=32 {
@@ -76,7 +71,7 @@ fn in_large_groups_parts_and_matching_agree_and_the_word_fills() {
             }
             let tags = random.multiples(n, step);
             for seed in 0..400 {
-                let word = least_word(&tags, seed);
+                let word = word_taken(&tags, seed);
                 assert_eq!(serves(&tags, seed), word.is_some(), "{tags:?} {seed}");
                 if let Some(word) = word {
                     served += 1;

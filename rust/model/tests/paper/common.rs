@@ -40,9 +40,42 @@ pub fn chosen_places(tags: &[u32], seed: u32, word: u32) -> Vec<u32> {
 
 /// "It fills the group under a seed if the n chosen places are all different."
 pub fn fills(tags: &[u32], seed: u32, word: u32) -> bool {
-    let mut chosen = chosen_places(tags, seed, word);
-    chosen.sort_unstable();
-    chosen.windows(2).all(|pair| pair[0] != pair[1])
+    all_different(&places(tags, seed), word)
+}
+
+/// Whether a choice word gives different places to tags with these pairs of places.
+pub fn all_different(pairs: &[[u32; 2]], word: u32) -> bool {
+    let mut taken = 0u32;
+    pairs.iter().enumerate().all(|(index, pair)| {
+        let place = 1 << pair[(word >> index & 1) as usize];
+        let free = taken & place == 0;
+        taken |= place;
+        free
+    })
+}
+
+/// All words of n choices, in the order of document 02, §6: the one with fewer ones first, and between
+/// equals the one that has 0 for the lowest tag on which they differ.
+pub fn in_order(n: usize) -> Vec<u32> {
+    let mut words = lowest_tag_first(n);
+    // Sorting keeps the order of equals.
+    words.sort_by_key(|word| word.count_ones());
+    words
+}
+
+/// All words of n choices, in the order before: the lowest tag's choice is the leading digit.
+pub fn lowest_tag_first(n: usize) -> Vec<u32> {
+    let word = |rank: u32| {
+        let choices = (0..n).map(|index| (rank >> (n - 1 - index) & 1) << index);
+        choices.sum()
+    };
+    (0..1 << n).map(word).collect()
+}
+
+/// The word that is taken for tags with these pairs of places, by trying all 2^n.
+pub fn taken_by_brute_force(pairs: &[[u32; 2]]) -> Option<u32> {
+    let mut words = in_order(pairs.len()).into_iter();
+    words.find(|&word| all_different(pairs, word))
 }
 
 /// A tag that G takes to 1, so that a multiplier takes it to 4s + 2c + 1, which is below 2^18: it has
@@ -74,6 +107,25 @@ pub const WITHOUT_PLACE_2: [u32; 5] = [1 << 29, 2 << 29, 3 << 29, 5 << 29, 7 << 
 /// Six tags that no seed serves though every place is touched: the four odd multiples of 2^29 and
 /// four times 2^29 have only the places 0, 2, 3 and 5, four places for five tags.
 pub const FIVE_ON_FOUR_PLACES: [u32; 6] = [1 << 29, 2 << 29, 3 << 29, 4 << 29, 5 << 29, 7 << 29];
+
+/// A tag's candidate places, that of choice 0 first.
+pub type Key = [u32; 2];
+
+/// Ascending tags that have these candidate places under the seed, each the lowest above the one
+/// before. Under this seed every pair of places has tags.
+pub fn tags_of(keys: &[Key]) -> (u32, Vec<u32>) {
+    let n = keys.len() as u32;
+    let seed = n / 4;
+    let mut tag = 0;
+    let tags = keys.iter().map(|&key| {
+        tag = (tag + 1..)
+            .find(|&tag| [0, 1].map(|choice| place_of(n, seed, choice, tag)) == key)
+            .expect("some tag has these places");
+        tag
+    });
+    let tags = tags.collect();
+    (seed, tags)
+}
 
 /// The first tags of a group, from tag 1 on.
 pub fn tags_of_group(group: u32, groups: u32, count: usize) -> Vec<u32> {

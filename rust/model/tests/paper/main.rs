@@ -1,9 +1,11 @@
-//! The model held against document 01 and document 02, §1 to §3 and §5: worked values, traps, refusals,
-//! edges, agreement, tag 0, groups of up to 32 tags, planning and writing, and the index without tags.
+//! The model held against document 01 and document 02, §1 to §3, §5 and §6: worked values, traps,
+//! refusals, edges, agreement, tag 0, groups of up to 32 tags, planning and writing, the index without
+//! tags, and the fewest second places.
 
 mod agreement;
 mod common;
 mod counts_and_buffers;
+mod fewest;
 mod figures;
 mod images;
 mod lists;

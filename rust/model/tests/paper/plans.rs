@@ -1,13 +1,13 @@
 //! Planning, writing with any plan, and building as the two in turn.
 
 use crate::common::{
-    refusal, tags_of_group, tags_of_groups, with_line, WHOLE_CASE_IMAGE, WHOLE_CASE_TEXT,
-    WITHOUT_PLACE_2,
+    fills, lowest_tag_first, places, refusal, tags_of_group, tags_of_groups, taken_by_brute_force,
+    with_line, WHOLE_CASE_IMAGE, WHOLE_CASE_TEXT, WITHOUT_PLACE_2,
 };
 use model::hash::{group_of, place_of};
 use model::image::image_length;
 use model::line::{line_of_tag, line_of_two};
-use model::placing::{first_not_ascending, least_word, limit_is_legal, serves};
+use model::placing::{first_not_ascending, limit_is_legal, serves, word_taken};
 use model::{
     answer_plan, answer_write, build, check, image_of, list_text, place_group, plan_list,
     write_list, Plan, Refusal,
@@ -162,8 +162,10 @@ fn an_empty_group_is_written_with_the_plans_seed() {
 }
 
 #[test]
-fn the_least_sequence_under_the_plans_seed_is_written_though_a_lower_seed_serves() {
+fn the_sequence_taken_under_the_plans_seed_is_written_though_a_lower_seed_serves() {
     let mut random = Random::new(22);
+    // Written under another seed than the least, and not as the lowest tag alone would decide.
+    let mut unlike_the_order_before = 0;
     for _ in 0..200 {
         let count = 1 + random.below(9);
         let tags = random.tags(count);
@@ -171,17 +173,22 @@ fn the_least_sequence_under_the_plans_seed_is_written_though_a_lower_seed_serves
             .filter(|&seed| serves(&tags, seed))
             .take(4)
             .collect();
-        for seed in seeds {
+        for (rank, seed) in seeds.into_iter().enumerate() {
             let image = written(&tags, &plan_of(&[seed])).unwrap();
             assert_eq!(check(&image), Ok(()));
             assert_eq!(image[11..22], line_of_two(0, u64::from(seed)));
-            let word = least_word(&tags, seed).unwrap();
+            let word = taken_by_brute_force(&places(&tags, seed)).unwrap();
+            assert_eq!(word_taken(&tags, seed), Some(word));
             for (index, &tag) in tags.iter().enumerate() {
                 let place = place_of(count as u32, seed, word >> index & 1, tag) as usize;
                 assert_eq!(image[11 * (2 + place)..11 * (3 + place)], line_of_tag(tag));
             }
+            let mut before = lowest_tag_first(count).into_iter();
+            let before = before.find(|&word| fills(&tags, seed, word));
+            unlike_the_order_before += u32::from(rank > 0 && before != Some(word));
         }
     }
+    assert!(unlike_the_order_before > 20, "{unlike_the_order_before}");
 }
 
 #[test]

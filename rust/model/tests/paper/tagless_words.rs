@@ -314,7 +314,7 @@ fn two_tags_with_the_same_two_places_are_bound_to_each_other_only() {
         assert_eq!(Some(word), least_by_sequences(&tags, 3));
         // The word of the sequence that placing takes is often greater.
         let rows: Vec<u32> = tags.iter().map(|&tag| row_of(3, tag)).collect();
-        let preferred = least_for_sequence(&rows, placing::least_word(&tags, 3).unwrap());
+        let preferred = least_for_sequence(&rows, placing::word_taken(&tags, 3).unwrap());
         assert!(preferred.is_none() || word <= preferred);
         greater += u32::from(word < preferred);
     }

@@ -2,35 +2,18 @@
 //! given graph, of every size up to 32; their words by another method than the model's; the sizes 0,
 //! 1, 2, 31, 32 and 33.
 
-use crate::common::{fills, group_without_seed, places, refusal, tags_of_group, two_on_place_0};
-use model::hash::place_of;
-use model::placing::{least_word, serves};
+use crate::common::{
+    fills, group_without_seed, places, refusal, tags_of, tags_of_group, two_on_place_0, Key,
+};
+use model::placing::{serves, word_taken};
 use model::{answer_place, check, image_of, lookup, place_group, place_of_one_tag, Found};
 use random::Random;
 
-/// A tag's candidate places, that of choice 0 first.
-type Key = [u32; 2];
-
-/// Ascending tags that have these candidate places under the seed, each the lowest above the one
-/// before. Under this seed every pair of places has tags.
-fn tags_of(keys: &[Key]) -> (u32, Vec<u32>) {
-    let n = keys.len() as u32;
-    let seed = n / 4;
-    let mut tag = 0;
-    let tags = keys.iter().map(|&key| {
-        tag = (tag + 1..)
-            .find(|&tag| [0, 1].map(|choice| place_of(n, seed, choice, tag)) == key)
-            .expect("some tag has these places");
-        tag
-    });
-    let tags = tags.collect();
-    (seed, tags)
-}
-
-/// The word of the least sequence that fills, without a matching. A place that one tag alone reaches
-/// gets that tag; where none is left, what remains must be cycles, and on each cycle the two ways to
-/// fill it differ in every choice, so the lowest tag of the cycle takes its first place.
-fn least_by_cycles(keys: &[Key]) -> Option<u32> {
+/// The word of the sequence that is taken, by cycles alone. A place that one tag alone reaches gets that
+/// tag; where none is left, what remains must be cycles. Each has two ways to fill it, which differ in
+/// every choice: the way with fewer ones, and where both have as many, the one that gives the lowest tag
+/// its first place.
+fn taken_by_cycles(keys: &[Key]) -> Option<u32> {
     let n = keys.len();
     let mut left: Vec<usize> = (0..n).collect();
     let mut free: Vec<u32> = (0..n as u32).collect();
@@ -44,21 +27,41 @@ fn least_by_cycles(keys: &[Key]) -> Option<u32> {
             return None;
         }
         let alone = free.iter().copied().find(|&place| ends(place) == 1);
-        let (tag, choice) = if let Some(place) = alone {
+        let (tags, choices) = if let Some(place) = alone {
             let tag = *left.iter().find(|&&tag| keys[tag].contains(&place))?;
-            (tag, usize::from(keys[tag][1] == place))
+            (1 << tag, u32::from(keys[tag][1] == place) << tag)
         } else if free.iter().any(|&place| ends(place) > 2) {
             return None;
         } else if let Some(&lowest) = left.first() {
-            // With this place gone, the next tag of the cycle has its other place alone.
-            (lowest, 0)
+            let (cycle, way) = cycle_of(lowest, keys, &left);
+            let other = cycle ^ way;
+            let fewer = way.count_ones() <= other.count_ones();
+            (cycle, if fewer { way } else { other })
         } else {
             return Some(word);
         };
-        word |= (choice as u32) << tag;
-        left.retain(|&other| other != tag);
-        free.retain(|&place| place != keys[tag][choice]);
+        word |= choices;
+        let chosen = |tag: usize| keys[tag][(choices >> tag & 1) as usize];
+        free.retain(|&place| (0..n).all(|tag| tags >> tag & 1 == 0 || chosen(tag) != place));
+        left.retain(|&tag| tags >> tag & 1 == 0);
     }
+}
+
+/// The tags of the cycle that this one lies on, as a word, and their choices if it takes its first
+/// place: the next tag there takes its other one, and so on round the cycle.
+fn cycle_of(lowest: usize, keys: &[Key], left: &[usize]) -> (u32, u32) {
+    let [mut place, last] = keys[lowest];
+    let (mut cycle, mut way) = (1 << lowest, 0);
+    let mut tag = lowest;
+    while place != last {
+        let next = |&&other: &&usize| other != tag && keys[other].contains(&place);
+        tag = *left.iter().find(next).expect("a place of a cycle has two");
+        let choice = u32::from(keys[tag][0] == place);
+        place = keys[tag][choice as usize];
+        cycle |= 1 << tag;
+        way |= choice << tag;
+    }
+    (cycle, way)
 }
 
 /// A path from the place 0, which its first tag has to itself: every other tag takes its second.
@@ -101,12 +104,12 @@ fn shuffle(random: &mut Random, keys: &mut [Key]) {
     }
 }
 
-/// Holds both methods of the model against `least_by_cycles`, under the seed that the keys are for.
+/// Holds both methods of the model against `taken_by_cycles`, under the seed that the keys are for.
 fn agrees(keys: &[Key]) -> Option<u32> {
     let (seed, tags) = tags_of(keys);
     assert_eq!(places(&tags, seed), keys);
-    let word = least_by_cycles(keys);
-    assert_eq!(least_word(&tags, seed), word, "{keys:?}");
+    let word = taken_by_cycles(keys);
+    assert_eq!(word_taken(&tags, seed), word, "{keys:?}");
     assert_eq!(serves(&tags, seed), word.is_some(), "{keys:?}");
     if let Some(word) = word {
         assert!(fills(&tags, seed, word));
@@ -139,7 +142,7 @@ fn the_words_of_paths_cycles_and_lollipops_are_known() {
 }
 
 #[test]
-fn the_least_word_of_any_parts_is_that_of_their_cycles() {
+fn the_word_taken_for_any_parts_is_that_of_their_cycles() {
     let mut random = Random::new(21);
     let mut bits = (0, u32::MAX);
     for n in 1..=32 {
@@ -184,9 +187,9 @@ fn random_groups_of_up_to_32_tags_have_the_words_of_their_cycles() {
     for n in 0..=32 {
         let tags = random.tags(n);
         let (seed, word) = place_group(&tags, 65_536).unwrap();
-        assert_eq!(least_by_cycles(&places(&tags, seed)), Some(word));
+        assert_eq!(taken_by_cycles(&places(&tags, seed)), Some(word));
         for lower in 0..seed {
-            assert_eq!(least_by_cycles(&places(&tags, lower)), None);
+            assert_eq!(taken_by_cycles(&places(&tags, lower)), None);
         }
     }
 }
@@ -269,9 +272,9 @@ fn the_last_seed_is_tried_where_the_limit_is_65536() {
     assert_eq!(place_group(&LAST_SEED, 65_536), Ok((65_535, 2_463_874_191)));
     assert_eq!(place_group(&LAST_SEED, 65_535), Err(refusal(7, 0)));
     let last = places(&LAST_SEED, 65_535);
-    assert_eq!(least_by_cycles(&last), Some(2_463_874_191));
+    assert_eq!(taken_by_cycles(&last), Some(2_463_874_191));
     for seed in 0..65_535 {
-        assert_eq!(least_by_cycles(&places(&LAST_SEED, seed)), None);
+        assert_eq!(taken_by_cycles(&places(&LAST_SEED, seed)), None);
     }
     let image = image_of(&LAST_SEED, 1, 65_536).unwrap();
     assert_eq!(image[..22], *b"   32    1\n    065535\n");

@@ -1,7 +1,7 @@
 //! The traps of document 01: for each, a concrete group, and the wrong method's other answer.
 
 use crate::common::{chosen_places, fills, places, refusal};
-use model::placing::{least_word, serves};
+use model::placing::{serves, word_taken};
 use model::{image_of, place_group};
 
 /// A cuckoo insertion that gives up a chain after so many moves: its end state, as a choice word.
@@ -62,7 +62,7 @@ fn three_tags_on_two_places_cannot_be_filled() {
     let tags = [13, 1_073_741_824, 3_221_225_472];
     assert_eq!(places(&tags, 0), [[0, 0], [0, 2], [2, 0]]);
     assert!(!serves(&tags, 0));
-    assert_eq!(least_word(&tags, 0), None);
+    assert_eq!(word_taken(&tags, 0), None);
 }
 
 #[test]
@@ -99,7 +99,7 @@ fn an_eviction_chain_may_pass_a_tag_twice_and_still_succeed() {
     let tags = [13, 57, 61];
     assert_eq!(places(&tags, 1), [[0, 0], [0, 1], [1, 2]]);
     assert!(serves(&tags, 1));
-    assert_eq!(least_word(&tags, 1), Some(0b110));
+    assert_eq!(word_taken(&tags, 1), Some(0b110));
     assert_eq!(place_group(&tags, 9), Ok((1, 0b110)));
     // The last tag's chain moves 61, 57, 13, 57 again and 61 again: five moves, three tags.
     assert_eq!(eviction(&tags, 1, tags.len()), None);
@@ -107,10 +107,10 @@ fn an_eviction_chain_may_pass_a_tag_twice_and_still_succeed() {
 }
 
 #[test]
-fn the_least_sequence_is_taken_and_not_the_end_state_of_eviction() {
+fn the_sequence_with_the_fewest_ones_is_taken_and_not_the_end_state_of_eviction() {
     let tags = [14, 337_764_173, 964_266_638, 2_787_973_142];
     assert_eq!(places(&tags, 1), [[1, 2], [0, 3], [3, 0], [3, 2]]);
-    assert_eq!(least_word(&tags, 1), Some(0b1000));
+    assert_eq!(word_taken(&tags, 1), Some(0b1000));
     assert_eq!(chosen_places(&tags, 1, 0b1000), [1, 0, 3, 2]);
     let end_state = eviction(&tags, 1, 100).unwrap();
     assert_eq!(end_state, 0b1110);
@@ -118,7 +118,7 @@ fn the_least_sequence_is_taken_and_not_the_end_state_of_eviction() {
 }
 
 #[test]
-fn the_least_sequence_shows_in_the_image() {
+fn the_sequence_taken_shows_in_the_image() {
     let tags = [599, 1193];
     assert_eq!(place_group(&tags, 1), Ok((0, 2)));
     assert_eq!(eviction(&tags, 0, 100), Some(1));
@@ -128,11 +128,11 @@ fn the_least_sequence_shows_in_the_image() {
 }
 
 #[test]
-fn least_means_from_the_lowest_tag_on_and_not_the_least_word() {
-    // Words 1 (1, 0) and 2 (0, 1) both fill; as a number 1 is less, as a sequence 0, 1 is.
+fn between_equals_the_lowest_tag_decides_and_not_the_least_word() {
+    // Words 1 (1, 0) and 2 (0, 1) both fill, with one 1 each; as a number 1 is less, and 0, 1 is taken.
     let tags = [599, 1193];
     assert!(fills(&tags, 0, 1) && fills(&tags, 0, 2));
-    assert_eq!(least_word(&tags, 0), Some(2));
+    assert_eq!(word_taken(&tags, 0), Some(2));
 }
 
 #[test]
