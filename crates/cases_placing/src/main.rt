@@ -165,47 +165,6 @@ fn path() {
     );
 }
 
-// 32 tags of which the last one decides: its second place would be a second one besides that of tag 58, where that of tag 37 alone suffices.
-fn last_of_32() {
-    place(
-        &[
-            37,
-            58,
-            59,
-            60,
-            61,
-            62,
-            63,
-            65,
-            66,
-            67,
-            68,
-            69,
-            70,
-            71,
-            72,
-            73,
-            74,
-            75,
-            76,
-            77,
-            78,
-            79,
-            81,
-            82,
-            83,
-            86,
-            87,
-            88,
-            91,
-            97,
-            106,
-            174,
-        ],
-        1,
-    );
-}
-
 // The path from its other end: every tag has its first place until the last one comes, which moves them all: 31 evictions.
 fn path_to_be_moved_along() {
     place(
@@ -283,6 +242,48 @@ fn lollipop() {
             1595,
             1615,
             1636,
+        ],
+        1,
+    );
+}
+
+// A cycle of five with two ones, or three if that of the last tag, bit 31, is counted; three cycles of two with one either way, where
+// the lowest tag decides; and two tags with equal places.
+fn fewest_second_places() {
+    place(
+        &[
+            18,
+            38,
+            68,
+            107,
+            111,
+            128,
+            133,
+            159,
+            181,
+            197,
+            225,
+            229,
+            234,
+            272,
+            297,
+            332,
+            341,
+            368,
+            393,
+            439,
+            468,
+            484,
+            518,
+            521,
+            535,
+            550,
+            579,
+            582,
+            593,
+            620,
+            636,
+            666,
         ],
         1,
     );
@@ -383,10 +384,10 @@ fn main() {
     traps();
     limits();
     sizes();
-    last_of_32();
     path();
     path_to_be_moved_along();
     lollipop();
     all_kinds_of_bits();
+    fewest_second_places();
     unwired();
 }

@@ -114,7 +114,7 @@ fn plans(many: &[u32]) -> [(&'static str, &[u32], u32, u32); 11] {
 }
 
 /// Writings into 77 bytes, with three seeds each.
-fn small(many: &[u32]) -> [(&'static str, &[u32], u32, [u32; 3]); 28] {
+fn small(many: &[u32]) -> [(&'static str, &[u32], u32, [u32; 3]); 29] {
     const HIGH: u32 = u32::MAX;
     [
         ("seeds 0 and 1", &[1, 2, 3], 2, [0, 1, HIGH]),
@@ -126,6 +126,12 @@ fn small(many: &[u32]) -> [(&'static str, &[u32], u32, [u32; 3]); 28] {
         ("group 1 not served", &[1, 3, 4, 12], 2, [1, 0, 0]),
         ("neither served", &[1, 3, 4, 12], 2, [0, 0, 0]),
         ("tags with the same two places", &[599, 1_193], 1, [0, 0, 0]),
+        (
+            "fewest second places under a later seed",
+            &[1, 2, 12],
+            1,
+            [11, 0, 0],
+        ),
         ("no tags", &[], 3, [7, 65_535, 0]),
         ("one tag, and two empty groups", &[2], 3, [9, 8, 7]),
         ("two empty groups and one tag", &[13], 3, [1, 2, 3]),
