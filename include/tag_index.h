@@ -115,8 +115,10 @@ uint64_t tag_index_lookup(const uint8_t *image, size_t image_length, uint32_t ta
 /* Places a group by itself: its tags in ascending order, and the seed limit L.
  *
  * Answers the least seed that serves the group, 0 to 65,535, and the cell `word` becomes the choice
- * word: bit i is the choice of the tag with index i, and all 32 bits are used. Or refusal 4, 5, 6,
- * 17 or 7; it leaves the cell as it was. */
+ * word: bit i is the choice of the tag with index i, and all 32 bits are used. Of the choices that
+ * give each tag a place of its own, those with the fewest second places are taken, and between equals
+ * the lowest tag decides, first place before second. Or refusal 4, 5, 6, 17 or 7; it leaves the cell
+ * as it was. */
 uint64_t tag_index_place_group(const uint32_t *tags, size_t tags_length, uint32_t limit,
                                uint32_t *word);
 

@@ -92,7 +92,7 @@ pub record Accepted (tags : List ℕ) (groups : ℕ) (plan after : List ℕ) (si
   -- The length, and the seed in each group's line of the written image.
   pub whole : size ≡ 11 * (1 + groups + length tags)
   pub line : (g : ℕ) → g < groups → lineAt (suc g) (take size after) ≡ pairLine (startOf groups g tags) (plannedSeed plan g)
-  -- The sequence taken fills under that seed and is the least that does.
+  -- The sequence taken fills under that seed and is the least that does, in the order of choices: fewest ones, then the lowest tag.
   pub fills : (g : ℕ) → g < groups → GroupFills groups tags g (plannedSeed plan g) (choices g)
   pub least : (g : ℕ) → g < groups → (other : List Bool) → GroupFills groups tags g (plannedSeed plan g) other → NotAfter (choices g) other
   -- "each number below N belongs to exactly one of its tags and each of its tags has exactly one of them"

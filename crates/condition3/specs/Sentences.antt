@@ -69,7 +69,8 @@ module _ {tags : List ℕ} {groups limit room : ℕ} {plan : List ℕ} {answer :
     unfolding sequence
     sequence-places = accepted .fills
 
-    -- "Among filling sequences the least is taken".
+    -- and is the least such sequence: "the one with the fewest ones is now taken, and only between equals does the lowest tag decide,
+    -- 0 before 1".
     pub sequence-least : (g : ℕ) → g < groups → (other : List Bool) → Places tags groups g (plannedSeed plan g) other
         → NotAfter (sequence g) other
     unfolding sequence

@@ -1,5 +1,5 @@
--- The least sequence that fills. LeastLaws says what it is without searching: it fills, nothing that fills comes before it, and
--- where there is none nothing fills. Assumes nothing.
+-- Whether something fills: the least sequence, compared from the lowest key on, shows it. LeastLaws says it without searching. Assumes
+-- nothing.
 use Prim.Native.Nat.{ℕ}
 use mathlib.Core.Bool.{Bool, true, false, cond}
 use mathlib.Core.List.{List, [], _∷_}
@@ -13,7 +13,7 @@ unfoldable pub beginning : Bool → Key → List ℕ → Option (List Bool) → 
 beginning choice key used rest =
     cond (occurs (placeBy choice key) used) none (Option·map (λ choices. choice ∷ choices) rest)
 
--- "Among filling sequences the least is taken": each key in turn, choice 0 before choice 1, over the places used so far.
+-- Each key in turn, choice 0 before choice 1, over the places used so far.
 unfoldable pub leastFrom : List ℕ → List Key → Option (List Bool)
 leastFrom used [] = some []
 leastFrom used (key ∷ keys) =

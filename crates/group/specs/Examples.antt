@@ -1,7 +1,9 @@
--- The order of placing's refusals, each where the next one is due too, by computation. Assumes nothing.
+-- The order of placing's refusals, each where the next one is due too, and small groups in which the order of choices decides, by
+-- computation. Assumes nothing.
 use mathlib.Core.Path.{_≡_, refl}
+use mathlib.Core.Bool.{true, false}
 use mathlib.Core.List.{List, [], _∷_}
-use mathlib.Core.Option.{orElse}
+use mathlib.Core.Option.{some, orElse}
 use Prim.Native.Nat.{ℕ, suc}
 use lib.ListN.{replicate}
 use Rattle.refusal.specs.Limits.{groupMax, outside}
@@ -11,8 +13,11 @@ use Rattle.refusal.specs.Checks.{met, inOrder}
 use Rattle.hash.specs.Formula.{product, highPart, hashed, multiplier, placeOf}
 use Rattle.lists.specs.Occurs.{occurs}
 use Rattle.filling.specs.Filling.{placeBy}
+use Rattle.filling.specs.Word.{choiceNumber}
+use Rattle.filling.specs.Order.{ones}
 use Rattle.filling.specs.Least.{beginning, leastFrom, least, feasible}
-use Rattle.group.specs.Group.{bothPlaces, candidates, leastSeed}
+use Rattle.filling.specs.Taken.{fewerOnes, takenFrom, sequenceTaken}
+use Rattle.group.specs.Group.{bothPlaces, candidates, groupUnder, leastSeed, taken}
 use Rattle.group.specs.Ascending.{notAbove}
 use Rattle.group.specs.Unwired.{startsUnwired}
 use Rattle.group.specs.Placing.{placingChecks, placingOf}
@@ -20,8 +25,8 @@ use Rattle.group.specs.Placing.{placingChecks, placingOf}
 -- `unfolding computed` opens every definition that these compute through.
 computed : ℕ
 unfolding orElse outside first metAt isSome met inOrder product highPart hashed multiplier placeOf occurs placeBy
-    beginning leastFrom least feasible bothPlaces candidates leastSeed notAbove startsUnwired
-    placingChecks placingOf
+    beginning leastFrom least feasible choiceNumber ones fewerOnes takenFrom sequenceTaken bothPlaces candidates leastSeed taken
+    notAbove startsUnwired placingChecks placingOf
 computed = 0
 
 -- One tag, once more than a group holds tags, which is too many tags, not ascending, and has no seed.
@@ -49,3 +54,14 @@ seventeen-before-seven = refl
 seven-last : placingOf (1 ∷ 3 ∷ []) 1 ≡ refused 7 0
 unfolding computed
 seven-last = refl
+
+-- {1, 2, 12} under seed 0: 0, 1, 1 fills too, and has one more second place.
+fewest-ones : (taken (1 ∷ 2 ∷ 12 ∷ []) 0 ≡ true ∷ false ∷ false ∷ [])
+    × (least (groupUnder (1 ∷ 2 ∷ 12 ∷ []) 0) ≡ some (false ∷ true ∷ true ∷ []))
+unfolding computed
+fewest-ones = (refl, refl)
+
+-- {599, 1193} have the same two places: either could have the second, and the lowest tag decides, 0 before 1.
+lowest-decides : taken (599 ∷ 1193 ∷ []) 0 ≡ false ∷ true ∷ []
+unfolding computed
+lowest-decides = refl

@@ -32,7 +32,8 @@ pub record Placed (tags : List ℕ) (limit : ℕ) (placed : Placement) : Type 0 
   pub below-limit : placed .seed < limit
   -- "The choice word has bit i equal to the choice of the tag with index i; all higher bits are 0."
   pub no-higher-bit : placed .word < 2 ^ length tags
-  -- The sequence that the word states fills under the seed and is the least that does; every lower seed is passed over.
+  -- The sequence that the word states fills under the seed and is the least that does, in the order of choices: fewest ones, then the
+  -- lowest tag. Every lower seed is passed over.
   pub fills : Fills (groupUnder tags (placed .seed)) (choicesOf (length tags) (placed .word))
   pub least : (other : List Bool) → Fills (groupUnder tags (placed .seed)) other → NotAfter (choicesOf (length tags) (placed .word)) other
   pub passed-over : Unserved tags (placed .seed)

@@ -1,4 +1,4 @@
-// The operation "placing a group": the least seed that some choice sequence fills, and the least such sequence.
+// The operation "placing a group": the least seed that some choice sequence fills, and the sequence taken under it.
 mod worked;
 
 use refusal::First;

@@ -1,7 +1,7 @@
 // The seed search of a group: the least seed below a limit under which some choice sequence fills.
 //
 // A seed is tested by cuckoo insertion with a bounded eviction chain (document 001, section 4); the ones of the occupancy word drop
-// most seeds before that. The choices that the insertion ends with fill, but are not the least that do: they are not kept.
+// most seeds before that. The choices that the insertion ends with fill, but are not those taken: they are not kept.
 ghost use mathlib.Core.Path.{_≡_};
 ghost use Prim.Native.Nat.{_*_, _≤_};
 ghost use lib.ListN.{length};
