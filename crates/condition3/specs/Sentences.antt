@@ -18,7 +18,8 @@ use Rattle.text.specs.Line.{lineAt, pairLine}
 use Rattle.hash.specs.Formula.{groupOf}
 use Rattle.lists.specs.Occurs.{occurs}
 use Rattle.filling.specs.Filling.{Fills}
-use Rattle.filling.specs.Order.{NotAfter}
+use Rattle.filling.specs.Order.{ones, LowestDecides, NotAfter}
+use Rattle.filling.specs.TakenLaws.{notAfter-ones, notAfter-lowest}
 use Rattle.group.specs.Group.{groupUnder, leastSeed}
 use Rattle.group.specs.GroupLaws.{leastSeed-some, leastSeed-none}
 use Rattle.image.specs.Lookup.{number, unknown, lookupOf}
@@ -69,12 +70,21 @@ module _ {tags : List ℕ} {groups limit room : ℕ} {plan : List ℕ} {answer :
     unfolding sequence
     sequence-places = accepted .fills
 
-    -- and is the least such sequence: "the one with the fewest ones is now taken, and only between equals does the lowest tag decide,
-    -- 0 before 1".
+    -- and is the least such sequence:
     pub sequence-least : (g : ℕ) → g < groups → (other : List Bool) → Places tags groups g (plannedSeed plan g) other
         → NotAfter (sequence g) other
     unfolding sequence
     sequence-least = accepted .least
+
+    -- "the one with the fewest ones is now taken,
+    pub sequence-fewest : (g : ℕ) → g < groups → (other : List Bool) → Places tags groups g (plannedSeed plan g) other
+        → ones (sequence g) ≤ ones other
+    sequence-fewest g lt other places = notAfter-ones (sequence g) other (sequence-least g lt other places)
+
+    -- and only between equals does the lowest tag decide, 0 before 1".
+    pub sequence-lowest : (g : ℕ) → g < groups → (other : List Bool) → Places tags groups g (plannedSeed plan g) other
+        → ones (sequence g) ≡ ones other → LowestDecides (sequence g) other
+    sequence-lowest g lt other places = notAfter-lowest (sequence g) other (sequence-least g lt other places)
 
     -- "No sequence of choices whatever … makes a seed that the builder passed over for that group give each of its tags a place of its
     -- own": passed over is what is lower than the seed in the group's line,

@@ -36,11 +36,17 @@ notAfter-antisym cs ds (inl p) (inr q) = absurd (omega arith)
 notAfter-antisym cs ds (inr p) (inl q) = absurd (omega arith)
 notAfter-antisym cs ds (inr p) (inr q) = lowest-antisym cs ds (p .1) (q .1)
 
--- What does not come after has no more ones.
-notAfter-ones : (cs ds : List Bool) → NotAfter cs ds → ones cs ≤ ones ds
+-- What does not come after has no more ones,
+pub notAfter-ones : (cs ds : List Bool) → NotAfter cs ds → ones cs ≤ ones ds
 unfolding NotAfter
 notAfter-ones cs ds (inl p) = omega arith
 notAfter-ones cs ds (inr p) = omega arith
+
+-- and between equals the lowest key decides.
+pub notAfter-lowest : (cs ds : List Bool) → NotAfter cs ds → ones cs ≡ ones ds → LowestDecides cs ds
+unfolding NotAfter
+notAfter-lowest cs ds (inl p) e = absurd (omega arith)
+notAfter-lowest cs ds (inr p) e = p .1
 
 -- The same choice before both changes nothing.
 notAfter-cons : (c : Bool) (cs ds : List Bool) → NotAfter cs ds → NotAfter (c ∷ cs) (c ∷ ds)
