@@ -123,3 +123,29 @@ second-place-lightest place weight k before c light same last own o below had fa
     go : (f : ℕ → Bool) → Separate place (suc k) f → (b : Bool) → f k ≡ b → total weight c (suc k) ≤ total weight f (suc k)
     go f all true e = own .lightest f all e
     go f all false e = rw (last, e) (omega (arith, level, first-place-heavier place k o below had f all e weight before light))
+
+-- A key with equal places takes its first: with its choice toggled the keys have the same places, and the choices weigh less.
+pub equal-places-first : (keys : List Key) {cs : List Bool} → length keys ≤ 32 → sequenceTaken keys ≡ some cs
+    → (i : ℕ) → i < length keys → keyPlace keys i false ≡ keyPlace keys i true → byIndex cs i ≡ false
+unfolding choiceWeight keyWeight
+equal-places-first keys {cs} few e i lt same = not-eq-not .0 second
+  where
+    light : Lightest (keyPlace keys) keyWeight (length keys) (byIndex cs)
+    light = taken-lightest keys few e
+
+    first : ℕ → Bool
+    first = toggle (byIndex cs) i
+
+    second : byIndex cs i ≡ true → ⊥
+    second t =
+        let apart = separate-same (λ j lj. stays j (ℕ-discrete j i)) (light .separate) in
+        let change =
+        total-change keyWeight (byIndex cs) first i (length keys) lt (λ j n. sym (toggle-toggled (byIndex cs) i .others j n)) in
+        omega (arith, light .lightest first apart, (rw (t, back) at change))
+      where
+        back : first i ≡ false
+        back = toggle-toggled (byIndex cs) i .here ∙ rw t
+
+        stays : (j : ℕ) → Dec (j ≡ i) → keyPlace keys j (byIndex cs j) ≡ keyPlace keys j (first j)
+        stays j (yes z) = rw (z, back, t) (sym same)
+        stays j (no n) = ap (keyPlace keys j) (sym (toggle-toggled (byIndex cs) i .others j n))
