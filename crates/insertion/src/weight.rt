@@ -17,7 +17,7 @@ pub fn lighter(a: u32, b: u32, count: u32) -> u32
     }
 }
 
-// What the second place of key i weighs.
+// What the second place of key i weighs: 2^32, and for the order between equals 2^(31 - i) more.
 fn key_weight(i: u32) -> u64
     requires { ⌜ i < 32 ⌝ }
     ensures answer { λ r. ⌜ r ≡ keyWeight i ⌝ }
