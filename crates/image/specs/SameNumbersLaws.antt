@@ -22,7 +22,7 @@ pub record SameNumbers (v w : View) : Type 0 where
   pub slots : (j : ℕ) → j < countIn v → slotIn v j ≡ slotIn w j
 
 module _ (v w : View) (same : SameNumbers v w) where
-  same-end : (g : ℕ) → g < groupsIn v → endIn v g ≡ endIn w g
+  pub same-end : (g : ℕ) → g < groupsIn v → endIn v g ≡ endIn w g
   same-end g below = go (ltb (suc g) (groupsIn v)) refl
     where
       go : (b : Bool) → ltb (suc g) (groupsIn v) ≡ b → endIn v g ≡ endIn w g

@@ -6,10 +6,11 @@ use Rattle.refusal.specs.declared.Reason.the-variants.{SizeOutOfRange, S
 use Rattle.refusal.specs.declared.Reason.the-variants.{TooManyTags, NotAscending, NoSeed, GroupCountOutOfRange, BufferTooShort}
 use Rattle.refusal.specs.declared.Reason.the-variants.{GroupTooLarge, WrongLength, MalformedLine, FaultyGroup, WrongSlot}
 use Rattle.refusal.specs.declared.Reason.the-variants.{RepeatedTag, MalformedList, UnwiredTag, SeedDoesNotServe}
+use Rattle.refusal.specs.declared.Reason.the-variants.{NotAsBuilt}
 use Rattle.refusal.specs.declared.Refusal.{Refusal}
 
--- "Refusal 1: n is not 1 to [32]. 2: seed above 65,535. …": document 01, "Operations and what stops each"; 17 and 18: document 02,
--- §1 and §3.
+-- "Refusal 1: n is not 1 to [32]. 2: seed above 65,535. …": document 01, "Operations and what stops each"; 17, 18 and 19:
+-- document 02, §1, §3 and §7.
 abbrev pub reasonNumber : Reason → ℕ
 reasonNumber SizeOutOfRange = 1
 reasonNumber SeedOutOfRange = 2
@@ -29,6 +30,7 @@ reasonNumber RepeatedTag = 15
 reasonNumber MalformedList = 16
 reasonNumber UnwiredTag = 17
 reasonNumber SeedDoesNotServe = 18
+reasonNumber NotAsBuilt = 19
 
 -- A refused operation's outcome, whatever it would have answered.
 abbrev pub refusalOf : {A : Type 0} → Refusal → Outcome A

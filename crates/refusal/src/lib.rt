@@ -32,7 +32,7 @@ pub const MEMBER_CELLS: usize = GROUP_MAX as usize;
 
 pub const PLAN_CELLS: usize = 1 + GROUP_CELLS;
 
-// Why an operation refuses: what is the matter with its input. Documents 01 and 02 number them 1 to 18, in this order.
+// Why an operation refuses: what is the matter with its input. Documents 01 and 02 number them 1 to 19, in this order.
 pub enum Reason {
     SizeOutOfRange,
     SeedOutOfRange,
@@ -55,6 +55,8 @@ pub enum Reason {
     UnwiredTag,
     // A plan's seed under which no choice sequence fills the group.
     SeedDoesNotServe,
+    // A group of an image whose seed or slots are not those that building gives its tags.
+    NotAsBuilt,
 }
 
 // A refusal: the reason, and the line, index, group or slot that it names, counted from 0; 0 where it names none.
@@ -92,6 +94,7 @@ pub fn reason_number(reason: Reason) -> u32
         Reason::MalformedList => 16,
         Reason::UnwiredTag => 17,
         Reason::SeedDoesNotServe => 18,
+        Reason::NotAsBuilt => 19,
     }
 }
 
