@@ -1,0 +1,4 @@
+pub mod Sorted
+pub mod Rising
+pub mod RisingLaws
+pub mod SortedLaws
