@@ -67,23 +67,23 @@ module _ {v : View} {groups : ℕ} {tags : List ℕ} {seed : ℕ → ℕ} {choic
   placed = all-placed fills
 
   -- The numbers that the lines state are the sheet's.
-  count-is : countIn v ≡ length tags
+  pub count-is : countIn v ≡ length tags
   unfolding countIn sheetOf
   count-is = rw (reads .header)
 
-  groups-is : groupsIn v ≡ groups
+  pub groups-is : groupsIn v ≡ groups
   unfolding groupsIn sheetOf
   groups-is = rw (reads .header)
 
-  start-is : (g : ℕ) → g < groups → startIn v g ≡ startOf groups g tags
+  pub start-is : (g : ℕ) → g < groups → startIn v g ≡ startOf groups g tags
   unfolding startIn sheetOf
   start-is g lt = ap (λ (o : Option (ℕ × ℕ)). (Option·getD o (0, 0)) .0) (reads .group g lt)
 
-  seed-is : (g : ℕ) → g < groups → seedIn v g ≡ seed g
+  pub seed-is : (g : ℕ) → g < groups → seedIn v g ≡ seed g
   unfolding seedIn sheetOf
   seed-is g lt = ap (λ (o : Option (ℕ × ℕ)). (Option·getD o (0, 0)) .1) (reads .group g lt)
 
-  end-is : (g : ℕ) → g < groups → endIn v g ≡ startOf groups (suc g) tags
+  pub end-is : (g : ℕ) → g < groups → endIn v g ≡ startOf groups (suc g) tags
   unfolding endIn
   end-is g lt = rw (groups-is, count-is) (go (ltb (suc g) groups) refl)
     where
@@ -97,7 +97,7 @@ module _ {v : View} {groups : ℕ} {tags : List ℕ} {seed : ℕ → ℕ} {choic
   abbrev tagAt : ℕ → ℕ
   tagAt j = tagNumbered (numberOf groups tags seed choices) tags j
 
-  slot-is : (j : ℕ) → j < length tags → v .slotAt (slotLineIn v j) ≡ some (tagAt j)
+  pub slot-is : (j : ℕ) → j < length tags → v .slotAt (slotLineIn v j) ≡ some (tagAt j)
   unfolding slotLineIn sheetOf
   slot-is j lt = rw groups-is (reads .slot j lt)
 

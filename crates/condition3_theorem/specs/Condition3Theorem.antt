@@ -99,7 +99,7 @@ module _ (tags : List ℕ) (groups limit : ℕ) where
   earlier = earlierChecks tags groups limit
 
   -- The checks before 7 pass exactly where the conditions on the inputs hold: one line for each, in their order.
-  pass-of-earlier : EarlierChecks tags groups limit → Pass earlier
+  pub pass-of-earlier : EarlierChecks tags groups limit → Pass earlier
   unfolding earlierChecks
   pass-of-earlier h =
       met-false (outside-not 1 groupsMax groups (h .groups-legal .0) (h .groups-legal .1))
@@ -216,11 +216,11 @@ module _ {tags : List ℕ} {groups : ℕ} {seed : ℕ → ℕ} (words : (t : ℕ
         words (tagNumbered f tags j) ((tagNumbered-is f tags j (number-onto (all-placed (h .fill)) j lt)) .0);
   }
 
-  reads : Reads (viewOf image) sheet
+  pub reads : Reads (viewOf image) sheet
   unfolding imageUnder
   reads = reads-back sheet in-range
 
-  absent : occurs unwired tags ≡ false
+  pub absent : occurs unwired tags ≡ false
   absent = wired-absent tags (h .ascending) (h .wired)
 
   -- The image is sound, so checking accepts it, and each lookup in it ends at the tag's slot, or nowhere since no slot holds it.
@@ -260,7 +260,7 @@ seeded-ready r = record {
   fill = ready-fill r;
 }
 
-seeded-taken : (tags : List ℕ) (groups limit : ℕ) {planned : ℕ} → planningOf tags groups limit ≡ answered planned
+pub seeded-taken : (tags : List ℕ) (groups limit : ℕ) {planned : ℕ} → planningOf tags groups limit ≡ answered planned
     → Seeded tags groups (seedTaken groups tags limit)
 unfolding choicesUnder
 seeded-taken tags groups limit e =

@@ -161,7 +161,7 @@ own-placed v j t e group spots = rw (e, eq-eqb (ownGroup v t) (groupOfSlot v j) 
     go g (inr h) = rw (eq-eqb j (candidateIn v g 1 t) h, or-true)
 
 module _ (v : View) (sound : Sound v) (many : 0 < groupsIn v) where
-  fair : AllFair v
+  pub fair : AllFair v
   fair g lt = fair-of-faulty g (startIn v g) (endIn v g) (sound .not-faulty g lt)
 
   module _ (t : ℕ) where
@@ -169,12 +169,12 @@ module _ (v : View) (sound : Sound v) (many : 0 < groupsIn v) where
     own-below = group-below (groupsIn v) t many
 
     -- A slot that holds the tag lies in the tag's group, at one of its two places.
-    slot-lies : (j : ℕ) → HoldsTag v j t → LiesIn v j (ownGroup v t)
+    pub slot-lies : (j : ℕ) → HoldsTag v j t → LiesIn v j (ownGroup v t)
     slot-lies j h =
         let (group, spots) = placed-own v j t (slotIn-reads v j (h .tag)) (sound .placed j (h .slot)) in
         rw group (groupOfSlot-lies v fair j many (h .slot))
 
-    slot-own : (j : ℕ) → HoldsTag v j t → (j ≡ ownSlot v 0 t) ⊎ (j ≡ ownSlot v 1 t)
+    pub slot-own : (j : ℕ) → HoldsTag v j t → (j ≡ ownSlot v 0 t) ⊎ (j ≡ ownSlot v 1 t)
     slot-own j h =
         let (group, spots) = placed-own v j t (slotIn-reads v j (h .tag)) (sound .placed j (h .slot)) in
         rw group spots
@@ -294,7 +294,7 @@ count-most image = go (imageHeader (lineAt 0 image)) refl
     go (some (n, b)) e = (image-header-only n b (lineAt 0 image) e) .1
 
 -- What an image that is accepted is, and it has a group.
-accepted-sound : (image : List ℕ) {a : ℕ} → checkingOf image ≡ answered a → Sound (viewOf image) × (0 < groupsIn (viewOf image))
+pub accepted-sound : (image : List ℕ) {a : ℕ} → checkingOf image ≡ answered a → Sound (viewOf image) × (0 < groupsIn (viewOf image))
 unfolding checkingOf
 accepted-sound image accepted =
     let sound = sound-of-pass (viewOf image) ((inOrder-answered (checkingChecks (viewOf image)) (answered 0) accepted) .0) in

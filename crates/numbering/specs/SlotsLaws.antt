@@ -12,7 +12,7 @@ use Rattle.lists.specs.Occurs.{occurs}
 use Rattle.lists.specs.UpTo.{upTo}
 use Rattle.lists.specs.UpToLaws.{upTo-length, upTo-at, flatten-more}
 use Rattle.numbering.specs.Members.{members, startOf}
-use Rattle.numbering.specs.MembersLaws.{members-own, members-distinct, start-zero, start-suc}
+use Rattle.numbering.specs.MembersLaws.{members-own, members-distinct, start-zero, start-all, start-suc, start-before}
 use Rattle.numbering.specs.Number.{placeIn, numberOf, tagNumbered}
 use Rattle.numbering.specs.NumberLaws.{some-listed, AllFill, all-placed, number-onto, place-apart, place-inside, tagNumbered-is}
 use Rattle.numbering.specs.GroupSlots.{groupSlots}
@@ -80,3 +80,14 @@ module _ {groups : ℕ} {tags : List ℕ} {seed : ℕ → ℕ} {choices : ℕ �
       let number = numberOf groups tags seed choices in
       let found = tagNumbered-is number tags j (number-onto (all-placed a) j lt) in
       ap (λ (i : ℕ). getD (flatten (upTo groups slotsOf)) i 0) (sym (found .1)) ∙ slot-of (tagNumbered number tags j) (found .0)
+
+  -- The slot of place p in group g is the one that the group's own slots have there.
+  pub slot-of-place : (g p : ℕ) → g < groups → p < length (members groups g tags)
+      → tagNumbered (numberOf groups tags seed choices) tags (startOf groups g tags + p) ≡ getD (slotsOf g) p 0
+  slot-of-place g p lt inside =
+      let last = start-before groups (suc g) groups tags lt in
+      let below : startOf groups g tags + p < length tags =
+      omega (arith, inside, start-suc groups g tags, last, start-all groups tags (a .some-group)) in
+      sym (slots-numbered (startOf groups g tags + p) below)
+      ∙ rw (← slots-start g)
+      (flatten-at groups slotsOf g p lt (rw (slots-length (members groups g tags) (seed g) (choices g)) inside))

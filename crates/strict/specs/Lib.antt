@@ -1,0 +1,10 @@
+pub mod Same
+pub mod SameLaws
+pub mod AsBuilt
+pub mod StrictCheck
+pub mod Condition
+pub mod HeldLaws
+pub mod RebuiltLaws
+pub mod LinesLaws
+pub mod WrittenGroupsLaws
+pub mod StrictTheorem
