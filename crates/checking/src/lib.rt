@@ -25,7 +25,7 @@ ghost use Rattle.image.specs.Checking.{malformedIn, numberChecks, checkingOf};
 ghost use Rattle.opening.specs.Opening.{openingOf, Opens};
 ghost use Rattle.slots.specs.Cells.{cellsView, Legal};
 ghost use Rattle.checking.specs.Answer.{checkOutcome};
-ghost use Rattle.checking.specs.Steps.{unwiredAt, faultyAt, linesBefore, GroupsStored, TagsStored};
+ghost use Rattle.checking.specs.Steps.{unwiredAt, faultyAt, linesBefore, GroupsStored, TagsStored, Stated};
 
 // What checking answers: accepted, or refused.
 pub enum CheckAnswer {
@@ -38,26 +38,39 @@ pub fn check_image(image: &[u8]) -> CheckAnswer
     ensures answer { λ r. ⌜ checkOutcome r ≡ checkingOf (now (image .entry)) ⌝ }
 {
     match opening::open(image) {
-        Opened::Counts(count, groups) => check_opened(image, count, groups),
+        Opened::Counts(count, groups) => {
+            let mut starts = [0u32; START_CELLS];
+            let mut seeds = [0u32; GROUP_CELLS];
+            let mut tags = [0u32; TAG_CELLS];
+            check_opened(image, count, groups, &mut starts, &mut seeds, &mut tags)
+        }
         Opened::Refused(refusal) => CheckAnswer::Refused(refusal),
     }
 }
 
-// Checking of an image that opens: its lines are read once, into cells, and what they state is checked there.
-fn check_opened(image: &[u8], count: u32, groups: u32) -> CheckAnswer
+// Checking of an image that opens: its lines are read once, into cells, and what they state is checked there. The cells of an accepted
+// image hold the numbers that it states.
+pub fn check_opened(
+    image: &[u8],
+    count: u32,
+    groups: u32,
+    starts: &mut [u32; START_CELLS],
+    seeds: &mut [u32; GROUP_CELLS],
+    tags: &mut [u32; TAG_CELLS],
+) -> CheckAnswer
     requires { ⌜ openingOf (now image) ≡ answered (count, groups) ⌝ }
+    requires { ⌜ (length (now starts) ≡ groupsMax + 1) × (length (now seeds) ≡ groupsMax) × (length (now tags) ≡ tagsMax) ⌝ }
     ensures answer { λ r. ⌜ checkOutcome r ≡ checkingOf (now (image .entry)) ⌝ }
+    ensures cells { λ r. ⌜ (checkOutcome r ≡ answered 0
+        → Stated (viewOf (now (image .entry))) groups (now (starts .exit)) (now (seeds .exit)) (now (tags .exit))) ⌝ }
 {
-    let mut starts = [0u32; START_CELLS];
-    let mut seeds = [0u32; GROUP_CELLS];
-    let mut tags = [0u32; TAG_CELLS];
-    if let First::At(k) = read_group_lines(image, count, groups, &mut starts, &mut seeds) {
+    if let First::At(k) = read_group_lines(image, count, groups, starts, seeds) {
         return refused(Reason::MalformedLine, k);
     }
-    if let First::At(k) = read_slot_lines(image, count, groups, &mut tags) {
+    if let First::At(k) = read_slot_lines(image, count, groups, tags) {
         return refused(Reason::MalformedLine, k);
     }
-    check_cells(&starts, &seeds, &tags, groups)
+    check_cells(starts, seeds, tags, groups)
 }
 
 // The refusal for a reason, at the line, group or slot that it names.

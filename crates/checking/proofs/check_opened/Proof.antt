@@ -1,17 +1,17 @@
 -- `checking::check_opened` meets its contract: a malformed line is the refusal, and otherwise the cells hold the numbers by which the
 -- rest is decided. Assumes nothing.
 use borrow.Author.Needs.{needs}
-use mathlib.Core.Path.{refl, sym, _∙_, ap}
+use mathlib.Core.Path.{sym, _∙_, ap}
 use Rattle.refusal.specs.Answer.{firstMeaning}
 use Rattle.opening.specs.OpeningLaws.{opening-answered}
-use Rattle.checking.specs.StepsLaws.{check-group-line, check-line, check-numbers, cells-same, cells-legal}
+use Rattle.checking.specs.StepsLaws.{check-group-line, check-line, check-numbers, cells-same, cells-legal, not-both}
 use Rattle.checking.proofs.check_opened.Statement.{statement}
 use Rattle.checking.proofs.check_opened.Tie as tie
 
 read-group-lines-requires : tie.Need-read-group-lines-requires
 read-group-lines-requires c κs =
     let start = c .before .before .before in
-    (opening-answered (start .args .image .now) (start .pre), (refl, refl))
+    (opening-answered (start .args .image .now) (start .pre .0), (start .pre .1 .0, start .pre .1 .1))
 
 returns : tie.Need-returns
 returns c =
@@ -19,7 +19,7 @@ returns c =
     let read = told .before .before in
     let start = read .before .before .before .before in
     let found = sym (read .read-group-lines .ensures .0) ∙ ap firstMeaning (told .k .given .1) in
-    c .refused .ensures ∙ sym (check-group-line (start .args .image .now) (start .pre) found)
+    (c .refused .ensures ∙ sym (check-group-line (start .args .image .now) (start .pre .0) found), λ accepted. absurd (not-both (c .refused .ensures) accepted))
 
 read-slot-lines-requires : tie.Need-read-slot-lines-requires
 read-slot-lines-requires c κs =
@@ -27,7 +27,7 @@ read-slot-lines-requires c κs =
     let read = told .before .before in
     let start = read .before .before .before .before in
     let passed = sym (read .read-group-lines .ensures .0) ∙ ap firstMeaning (told .enum-told .given .1) in
-    (opening-answered (start .args .image .now) (start .pre), (passed, refl))
+    (opening-answered (start .args .image .now) (start .pre .0), (passed, start .pre .1 .2))
 
 returns-2 : tie.Need-returns-2
 returns-2 c =
@@ -35,13 +35,13 @@ returns-2 c =
     let read = told .before .before in
     let start = read .before .before .before .before .before .before .before .before in
     let found = sym (read .read-slot-lines .ensures .0) ∙ ap firstMeaning (told .k2 .given .1) in
-    c .refused2 .ensures ∙ sym (check-line (start .args .image .now) (start .pre) found)
+    (c .refused2 .ensures ∙ sym (check-line (start .args .image .now) (start .pre .0) found), λ accepted. absurd (not-both (c .refused2 .ensures) accepted))
 
 check-cells-requires : tie.Need-check-cells-requires
 check-cells-requires c κs =
     let read = c .before .before .before .before .before .before .before in
     let start = read .before .before .before .before .before .before in
-    cells-legal (start .args .image .now) (opening-answered (start .args .image .now) (start .pre))
+    cells-legal (start .args .image .now) (opening-answered (start .args .image .now) (start .pre .0))
     (rw (read .enum-told .given .1) at (read .before .before .read-group-lines .ensures .1))
 
 returns-3 : tie.Need-returns-3
@@ -51,11 +51,14 @@ returns-3 c =
     let read = slots .before .before in
     let start = read .before .before .before .before .before .before in
     let image = start .args .image .now in
-    let opens = opening-answered image (start .pre) in
+    let opens = opening-answered image (start .pre .0) in
     let groups-stored = rw (read .enum-told .given .1) at (read .before .before .read-group-lines .ensures .1) in
     let tags-stored = rw (told .enum-told2 .given .1) at (slots .read-slot-lines .ensures .1) in
     let lines = sym (slots .read-slot-lines .ensures .0) ∙ ap firstMeaning (told .enum-told2 .given .1) in
-    c .check-cells .ensures ∙ sym (check-numbers image (start .pre) _ lines (cells-same image opens groups-stored tags-stored))
+    let same = cells-same image opens groups-stored tags-stored in (
+      c .check-cells .ensures ∙ sym (check-numbers image (start .pre .0) _ lines same),
+      λ accepted. record { same = same; legal = cells-legal image opens groups-stored; tags-long = tags-stored .long },
+    )
 
 pub check-opened-spec : {M : Type 1} → statement M
 check-opened-spec =
