@@ -1,12 +1,12 @@
--- Lists that are the same are equal, and number by number they are alike. Assumes nothing.
-use Prim.Native.Nat.{ℕ, zero, suc, _<_}
-use mathlib.Core.Path.{_≡_, refl, sym, _∙_}
-use mathlib.Core.Bool.{Bool, true, false, true≢false, _&&_}
+-- Lists are the same exactly where they are equal. Assumes nothing.
+use Prim.Native.Nat.{ℕ, _<_}
+use mathlib.Core.Path.{_≡_, refl, sym, ap}
+use mathlib.Core.Bool.{true, false, true≢false, not-eq-not}
 use mathlib.Core.List.{List, [], _∷_}
-use native.Mathlib.Omega.{arith}
 use lib.Dec.{eqb}
 use lib.ListN.{length, getD}
-use borrow.Author.Tests.{eqb-true, eqb-false, eq-eqb}
+use lib.Seq.{ext-getD}
+use borrow.Author.Tests.{eqb-true, eq-eqb}
 use Rattle.lists.specs.BoolLaws.{both-of-and}
 use Rattle.strict.specs.Same.{same}
 
@@ -19,7 +19,21 @@ equal-of-same (x ∷ xs) (y ∷ ys) e =
     let (here, rest) = both-of-and (eqb x y) (same xs ys) e in
     rw (eqb-true x y here, equal-of-same xs ys rest)
 
+-- Lists of which one is longer, or that differ at an index, are not the same;
+pub same-not : (xs ys : List ℕ) → (xs ≡ ys → ⊥) → same xs ys ≡ false
+same-not xs ys differ = not-eq-not .0 (λ e. differ (equal-of-same xs ys e))
+
+pub same-longer : (xs ys : List ℕ) → (length xs ≡ length ys → ⊥) → same xs ys ≡ false
+same-longer xs ys longer = same-not xs ys (λ e. longer (ap length e))
+
+pub same-differ : (xs ys : List ℕ) (i : ℕ) → (getD xs i 0 ≡ getD ys i 0 → ⊥) → same xs ys ≡ false
+same-differ xs ys i differ = same-not xs ys (λ e. differ (ap (λ (zs : List ℕ). getD zs i 0) e))
+
+-- and every list is the same as itself, so those that are alike at each index are.
 pub same-self : (xs : List ℕ) → same xs xs ≡ true
 unfolding same
 same-self [] = refl
 same-self (x ∷ xs) = rw (eq-eqb x x refl) (same-self xs)
+
+pub same-each : (xs ys : List ℕ) → length xs ≡ length ys → ((i : ℕ) → i < length xs → getD xs i 0 ≡ getD ys i 0) → same xs ys ≡ true
+same-each xs ys long each = rw (ext-getD 0 xs ys long each) (same-self ys)

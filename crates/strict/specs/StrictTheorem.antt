@@ -249,7 +249,7 @@ module _ (image : List ℕ) (accepted : checkingOf image ≡ answered 0) where
   }
 
   -- Behind an accepted checking 19 decides.
-  nineteen-decides : strictCheckOf image ≡ inOrder ((19, first (notAsBuilt v) groups) ∷ []) (answered 0)
+  pub nineteen-decides : strictCheckOf image ≡ inOrder ((19, first (notAsBuilt v) groups) ∷ []) (answered 0)
   unfolding strictCheckOf strictChecks checkingOf
   nineteen-decides =
       inOrder-append (checkingChecks v) _ _
@@ -312,7 +312,7 @@ ours-accepted image e =
     ours-as-built image accepted (first-none (notAsBuilt v) (groupsIn v) every)
 
 -- Checking's refusals come first.
-refused-first : (image : List ℕ) (reason place : ℕ) → checkingOf image ≡ refused reason place → strictCheckOf image ≡ refused reason place
+pub refused-first : (image : List ℕ) (reason place : ℕ) → checkingOf image ≡ refused reason place → strictCheckOf image ≡ refused reason place
 unfolding strictCheckOf strictChecks checkingOf
 refused-first image reason place e =
     inOrder-append (checkingChecks (viewOf image)) _ _
