@@ -8,3 +8,5 @@ pub mod PlaceGroupLaws
 pub mod UnwiredLaws
 pub mod Tagless
 pub mod TaglessLaws
+pub mod Strict
+pub mod StrictLaws

@@ -21,6 +21,7 @@ ghost use Rattle.tag_index.specs.Condition2.{AnswerCondition2};
 ghost use Rattle.tagless.specs.FromText.{taglessBufferFromText};
 ghost use Rattle.tag_index.specs.Tagless.{taglessBuildAnswer, taglessCheckAnswer, taglessLookupAnswer};
 ghost use Rattle.tag_index.specs.Tagless.{TaglessBuildCondition, TaglessAnswerCondition2};
+ghost use Rattle.tag_index.specs.Strict.{strictCheckAnswer, StrictAnswerCondition};
 ghost use Rattle.tag_index.specs.Condition3.{PlanCondition3, WriteCondition3, BuildCondition3, PlaceCondition3};
 
 // Builds the image of a list text at the beginning of `image`, and answers its length.
@@ -68,6 +69,18 @@ pub extern "C" fn tag_index_check(image: &[u8]) -> u64
     ensures answer { λ r. ⌜ r ≡ checkAnswer (now (image .entry)) ⌝ }
 {
     match checking::check_image(image) {
+        CheckAnswer::Accepted => 0,
+        CheckAnswer::Refused(refusal) => refusal_answer(refusal),
+    }
+}
+
+// Checks an image strictly, and answers 0 for one that building writes for some list.
+#[no_mangle]
+pub extern "C" fn tag_index_strict_check(image: &[u8]) -> u64
+    ensures answer { λ r. ⌜ r ≡ strictCheckAnswer (now (image .entry)) ⌝ }
+    ensures condition { λ r. ⌜ StrictAnswerCondition (now (image .entry)) r ⌝ }
+{
+    match strict_checking::strict_check(image) {
         CheckAnswer::Accepted => 0,
         CheckAnswer::Refused(refusal) => refusal_answer(refusal),
     }
