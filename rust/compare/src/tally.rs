@@ -436,11 +436,11 @@ impl Tally {
         self.words.add(case, answer, image);
     }
 
-    /// Writes the tags of a text with a plan into a buffer of `room` bytes, and answers what both sides
-    /// answered.
+    /// Writes the tags of a text with a plan into a buffer of `room` bytes, checks some of the images
+    /// strictly, and answers what both sides answered to writing.
     pub fn write(&mut self, text: &[u8], plan: &Cells, room: usize) -> u64 {
         let lent = Box::new(*plan);
-        let (answer, _) = self.fill(
+        let (answer, buffer) = self.fill(
             Operation::Writing,
             text,
             room,
@@ -468,6 +468,11 @@ impl Tally {
             for (part, &seed) in members.iter().zip(seeds) {
                 let word = model::placing::word_taken(part, seed).expect("both sides wrote it");
                 self.written.add(part, seed, word);
+            }
+            // Under a plan of other seeds the image may be one that building does not write. One in eight
+            // is enough: images of one list come several times.
+            if self.answers[Operation::Writing as usize].success % 8 == 0 {
+                self.strict_check(&buffer[..answer as usize]);
             }
         }
         answer
