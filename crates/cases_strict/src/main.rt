@@ -19,7 +19,19 @@ fn image(name: &[u8], image: &[u8]) {
     report::words(b"\n");
 }
 
-// Puts a text over the bytes of an image from a line on, as far as both go.
+// Puts a text over the beginning of the bytes, if it fits.
+fn put_first(bytes: &mut [u8], text: &[u8]) {
+    if bytes.len() < text.len() {
+        return;
+    }
+    let mut i = 0;
+    while i < text.len() {
+        bytes[i] = text[i];
+        i += 1;
+    }
+}
+
+// Puts a text over the bytes of an image of at most 34 lines from a line on.
 fn put(image: &mut [u8], line: usize, text: &[u8]) {
     if 33 < line {
         return;
@@ -28,15 +40,7 @@ fn put(image: &mut [u8], line: usize, text: &[u8]) {
     if image.len() < at {
         return;
     }
-    let part = &mut image[at..];
-    let mut i = 0;
-    while i < text.len() {
-        if part.len() <= i {
-            return;
-        }
-        part[i] = text[i];
-        i += 1;
-    }
+    put_first(&mut image[at..], text);
 }
 
 // The image of eight tags in six groups, built with L = 7. Two tags of group 0 and two of group 2 have the same two places, so that
@@ -72,16 +76,6 @@ fn edited(name: &[u8], line: usize, text: &[u8], other_line: usize, other: &[u8]
     put(&mut bytes, line, text);
     put(&mut bytes, other_line, other);
     image(name, &bytes);
-}
-
-// The same, cut to so many bytes.
-fn cut(name: &[u8], line: usize, text: &[u8], length: usize) {
-    let mut bytes = [b' '; 165];
-    six_groups(&mut bytes);
-    put(&mut bytes, line, text);
-    if length <= 165 {
-        image(name, &bytes[..length]);
-    }
 }
 
 // What building writes: the whole case, empty lists, small limits, the image of six groups, and two edited ones that are other lists'.
@@ -231,10 +225,20 @@ fn exchanged() {
 
 // Each refusal of checking with 19 due too, at a group before the fault or behind it.
 fn due_at_once() {
-    cut(b"ten bytes", 1, b"    0    2\n", 10);
+    image(b"ten bytes", b"    3    2");
+    image(
+        b"one byte short, seed 7 in group 0",
+        b"    3    2\n    0    7\n    1    1\n         2\n         1\n         3",
+    );
+    image(
+        b"one line short, seed 7 in group 0",
+        b"    3    2\n    0    7\n    1    1\n         2\n         1\n",
+    );
+    image(
+        b"one line more, seed 7 in group 0",
+        b"    3    2\n    0    7\n    1    1\n         2\n         1\n         3\n         4\n",
+    );
     edited(b"B = 0", 0, b"    8    0\n    0    9\n", 0, b"");
-    cut(b"one byte short", 6, b"    8    1\n", 164);
-    cut(b"one line short", 6, b"    8    1\n", 154);
     edited(
         b"a group line malformed",
         4,

@@ -204,16 +204,21 @@ fn exchanged() -> Vec<Case> {
 /// Each refusal of checking with 19 due too, at a group before the fault or behind it.
 fn due_at_once() -> Vec<Case> {
     vec![
-        ("ten bytes", edited(&[(1, "    0    2\n")])[..10].to_vec()),
+        ("ten bytes", b"    3    2".to_vec()),
+        (
+            "one byte short, seed 7 in group 0",
+            b"    3    2\n    0    7\n    1    1\n         2\n         1\n         3".to_vec(),
+        ),
+        (
+            "one line short, seed 7 in group 0",
+            b"    3    2\n    0    7\n    1    1\n         2\n         1\n".to_vec(),
+        ),
+        (
+            "one line more, seed 7 in group 0",
+            b"    3    2\n    0    7\n    1    1\n         2\n         1\n         3\n         4\n"
+                .to_vec(),
+        ),
         ("B = 0", edited(&[(0, "    8    0\n    0    9\n")])),
-        (
-            "one byte short",
-            edited(&[(6, "    8    1\n")])[..164].to_vec(),
-        ),
-        (
-            "one line short",
-            edited(&[(6, "    8    1\n")])[..154].to_vec(),
-        ),
         (
             "a group line malformed",
             edited(&[(4, "    5   00\n"), (6, "    8    1\n")]),
