@@ -471,7 +471,8 @@ impl Tally {
             }
             // Under a plan of other seeds the image may be one that building does not write. One in eight
             // is enough: images of one list come several times.
-            if self.answers[Operation::Writing as usize].success % 8 == 0 {
+            let written = self.answers[Operation::Writing as usize].success;
+            if written.is_multiple_of(8) {
                 self.strict_check(&buffer[..answer as usize]);
             }
         }

@@ -11,6 +11,7 @@ use model::placing::serves;
 use model::{answer_strict_check, check, image_of, lookup, strict_check, Found};
 use model::{plan_list, write_list, Plan};
 use random::Random;
+use std::slice;
 
 /// A group of an image: its seed, and the tags in its slots.
 type Group = (u32, Vec<u32>);
@@ -105,7 +106,7 @@ fn of_all_standings_of_a_group_building_s_alone_is_accepted() {
             let all = standings_up_to(&tags, 40);
             let built = image_of(&tags, 1, 65_536).unwrap();
             for group in &all {
-                let image = image(&[group.clone()]);
+                let image = image(slice::from_ref(group));
                 assert_eq!(check(&image), Ok(()));
                 let expected = if image == built {
                     Ok(())
