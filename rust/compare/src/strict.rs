@@ -38,6 +38,24 @@ fn image_of(case: &Case) -> Vec<u8> {
     model::image_of(&case.tags, case.groups, case.limit).expect("the case has an image")
 }
 
+/// What building writes is accepted.
+fn built(tally: &mut Tally, kind: &'static str, image: &[u8]) {
+    tally.kind(kind);
+    assert_eq!(tally.strict_check(image), 0);
+}
+
+/// Checks an image strictly if it is another one than before it was edited.
+fn examine(tally: &mut Tally, before: &[u8], image: &[u8]) {
+    if image != before {
+        tally.edited(image);
+    }
+}
+
+/// The answer for a group that is not as built.
+fn not_as_built(group: usize) -> u64 {
+    (19 << 32) + group as u64
+}
+
 /// An image taken apart: the seed of each group, and the tags in its slots.
 #[derive(Clone)]
 struct Groups(Vec<(u32, Vec<u32>)>);
@@ -179,8 +197,7 @@ fn tags_of_groups(sizes: &[usize]) -> Vec<u32> {
 
 /// Every byte with all other values, every cut, lines and bytes behind, and every line by every other.
 fn each_byte(tally: &mut Tally, image: &[u8], size: &Size) {
-    tally.kind("built images");
-    assert_eq!(tally.edited(image), 0);
+    built(tally, "built images", image);
 
     tally.kind("each byte of a built image set to all other values");
     let mut changed = image.to_vec();
@@ -204,9 +221,9 @@ fn each_byte(tally: &mut Tally, image: &[u8], size: &Size) {
         for second in 0..count {
             let mut changed = image.to_vec();
             changed.copy_within(LINE * first..LINE * (first + 1), LINE * second);
-            tally.edited(&changed);
+            examine(tally, image, &changed);
             changed[LINE * first..][..LINE].copy_from_slice(&image[LINE * second..][..LINE]);
-            tally.edited(&changed);
+            examine(tally, image, &changed);
         }
     }
 }
@@ -214,7 +231,6 @@ fn each_byte(tally: &mut Tally, image: &[u8], size: &Size) {
 /// Every seed there is for groups of 0, 1, 2 and 3 tags, with the slots that writing gives them where the
 /// seed serves, and as they were where it does not; alone, and as the last of two groups.
 fn every_seed(tally: &mut Tally, size: &Size) {
-    tally.kind("every seed stated");
     let whole = Groups(vec![(0, vec![2]), (1, vec![1, 3])]);
     let three = image_of(&Case::new(1, 99, [6, 8, 33]));
     for (groups, group) in [
@@ -223,7 +239,9 @@ fn every_seed(tally: &mut Tally, size: &Size) {
         (whole.clone(), 1),
         (Groups::of(&three), 0),
     ] {
-        assert_eq!(tally.edited(&groups.image()), 0);
+        let before = groups.image();
+        built(tally, "built images", &before);
+        tally.kind("every seed stated");
         let tags = groups.tags(group);
         let mut edited = groups.clone();
         for seed in (0..65_536).step_by(size.seed_step) {
@@ -231,18 +249,20 @@ fn every_seed(tally: &mut Tally, size: &Size) {
                 Some(word) => edited.stand(group, seed, word),
                 None => edited.0[group].0 = seed,
             }
-            tally.edited(&edited.image());
+            examine(tally, &before, &edited.image());
         }
     }
 }
 
-/// Every way to stand under the first seeds, for small groups: one of them is building's.
+/// Every way to stand under the first seeds, for small groups, but building's.
 fn every_standing(tally: &mut Tally, random: &mut Random, size: &Size) {
-    tally.kind("every standing under the first seeds");
     for n in 1..=6 {
         for _ in 0..size.edits.div_ceil(130) {
             let tags = different(n, || tag_of_group(random, 1, 2));
-            let mut groups = Groups(vec![(0, vec![]), (0, tags.clone())]);
+            let own = image_of(&Case::new(2, 65_536, tags.clone()));
+            built(tally, "built images", &own);
+            tally.kind("every standing under the first seeds");
+            let mut groups = Groups::of(&own);
             for seed in 0..32 {
                 let fills = |word: u32| {
                     let places = (0..n)
@@ -251,7 +271,7 @@ fn every_standing(tally: &mut Tally, random: &mut Random, size: &Size) {
                 };
                 for word in (0..1 << n).filter(|&word| fills(word)) {
                     groups.stand(1, seed, word);
-                    tally.edited(&groups.image());
+                    examine(tally, &own, &groups.image());
                 }
             }
         }
@@ -273,14 +293,12 @@ fn few_groups(tally: &mut Tally, random: &mut Random) {
     let Ok(image) = model::image_of(&case.tags, case.groups, 65_536) else {
         return;
     };
-    tally.kind("built images");
-    assert_eq!(tally.edited(&image), 0);
+    built(tally, "built images", &image);
     let groups = Groups::of(&image);
     let least = 1 + groups.0.iter().map(|&(seed, _)| seed).max().unwrap_or(0);
-    tally.kind("images built with the least L");
-    let tight = model::image_of(&case.tags, case.groups, least).expect("each seed is below it");
-    assert_eq!(tally.edited(&tight), 0);
-    for _ in 0..150 {
+    let tight = image_of(&Case::new(case.groups, least, case.tags));
+    built(tally, "images built with the least L", &tight);
+    for _ in 0..190 {
         edit(tally, random, &groups);
     }
     for _ in 0..4 {
@@ -304,10 +322,18 @@ fn edit(tally: &mut Tally, random: &mut Random, groups: &Groups) {
     let mut image = edited.image();
     if random.below(12) == 0 {
         tally.kind("bytes of edited images");
-        let at = random.below(image.len());
-        image[at] = b" 0123456789\n"[random.below(12)];
+        any_byte(random, &mut image);
     }
-    tally.edited(&image);
+    examine(tally, &groups.image(), &image);
+}
+
+/// Changes one byte, mostly to one that a line may have.
+fn any_byte(random: &mut Random, image: &mut [u8]) {
+    let at = random.below(image.len());
+    image[at] = match random.below(8) {
+        0 => random.next_u64() as u8,
+        _ => b" 0123456789\n"[random.below(12)],
+    };
 }
 
 /// Edits an image of groups that stand under their seeds. What it does may leave the image as it was, or
@@ -420,7 +446,7 @@ fn due_at_once(tally: &mut Tally, random: &mut Random, groups: &Groups) {
     }
     let image = edited.image();
     tally.kind("edited images before they are damaged");
-    assert_eq!(tally.edited(&image), (19 << 32) + own as u64);
+    assert_eq!(tally.edited(&image), not_as_built(own));
     tally.kind("a refusal of checking and 19 due at once");
     let slot_line = |group: usize, slot: usize| 1 + count + edited.start(group) + slot;
     for number in BEFORE_19 {
@@ -487,81 +513,84 @@ fn chosen(tally: &mut Tally, random: &mut Random) {
         let groups = Groups::of(&image_of(&Case::new(1, 1, tags)));
         full_group(tally, random, &groups, 30);
     }
-    tally.kind("the group that the last seed serves");
-    let last = Groups::of(&image_of(&Case::new(1, 65_536, LAST_SEED)));
-    assert_eq!(tally.edited(&last.image()), 0);
-    let mut edited = last.clone();
+    let last = image_of(&Case::new(1, 65_536, LAST_SEED));
+    built(tally, "the group that the last seed serves", &last);
+    let mut edited = Groups::of(&last);
     if edited.turn(0, random) {
-        assert_eq!(tally.edited(&edited.image()), 19 << 32);
+        assert_eq!(tally.edited(&edited.image()), not_as_built(0));
     }
 }
 
 /// One group of many tags: other sequences under its seed, other seeds, tags replaced and exchanged.
 fn full_group(tally: &mut Tally, random: &mut Random, groups: &Groups, edits: usize) {
-    tally.kind("built images of full groups");
-    assert_eq!(tally.edited(&groups.image()), 0);
+    let before = groups.image();
+    built(tally, "built images of full groups", &before);
     let mut edited = groups.clone();
     if edited.restate(0, random.below(60_000) as u32) {
         tally.kind("another seed that serves a full group");
-        let expected = [0, 19 << 32][usize::from(edited.0[0].0 != groups.0[0].0)];
-        assert_eq!(tally.edited(&edited.image()), expected);
+        assert_eq!(tally.edited(&edited.image()), not_as_built(0));
     }
     for _ in 0..edits {
         let mut edited = groups.clone();
         if edited.turn(0, random) {
             tally.kind("another sequence in a full group");
-            assert_eq!(tally.edited(&edited.image()), 19 << 32);
+            assert_eq!(tally.edited(&edited.image()), not_as_built(0));
         }
-        // Two tags that may stand in each other's slots, the last one among them as often as any.
         let n = groups.0[0].1.len();
-        let (first, second) = (random.below(n), n - 1 - random.below(n));
+        let (first, second) = (random.below(n), random.below(n));
         let mut edited = groups.clone();
         edited.0[0].1.swap(first, second);
         tally.kind("slots exchanged in a full group");
-        tally.edited(&edited.image());
+        examine(tally, &before, &edited.image());
         let mut edited = groups.clone();
         replace(random, &mut edited, 0);
         tally.kind("a tag replaced in a full group");
-        tally.edited(&edited.image());
+        examine(tally, &before, &edited.image());
     }
 }
 
-/// Images of 400 to 512 groups and up to 4,096 tags, and of 512 groups with one tag in two or three.
+/// Images of 400 to 512 groups and up to 4,096 tags, and of 512 groups with 200 tags.
 fn many_groups(tally: &mut Tally, random: &mut Random) {
     let case = large(random);
-    let groups = Groups::of(&image_of(&case));
-    tally.kind("built images of many groups");
-    assert_eq!(tally.edited(&groups.image()), 0);
+    let image = image_of(&case);
+    built(tally, "built images of many groups", &image);
+    let groups = Groups::of(&image);
     for _ in 0..12 {
         edit(tally, random, &groups);
         due_at_once(tally, random, &groups);
     }
+    tally.kind("bytes of images of many groups");
+    for _ in 0..200 {
+        let mut changed = image.clone();
+        any_byte(random, &mut changed);
+        examine(tally, &image, &changed);
+    }
     // Each group in turn, from the last to the first: every lower one is named instead.
     let tags = different(200, || random.tag());
-    let built = Groups::of(&image_of(&Case::new(512, 65_536, tags.clone())));
-    let mut edited = built.clone();
+    let own = Groups::of(&image_of(&Case::new(512, 65_536, tags.clone())));
+    let mut edited = own.clone();
     tally.kind("one group after the other edited, from the last to the first");
     for group in (0..512).rev() {
         if edited.restate(group, 1) {
-            assert_eq!(tally.edited(&edited.image()), (19 << 32) + group as u64);
+            assert_eq!(tally.edited(&edited.image()), not_as_built(group));
         }
-        let mut alone = built.clone();
+        let mut alone = own.clone();
         if alone.restate(group, 5) {
-            assert_eq!(tally.edited(&alone.image()), (19 << 32) + group as u64);
+            assert_eq!(tally.edited(&alone.image()), not_as_built(group));
         }
     }
     // The same by writing under another plan, with a seed for an empty group among them.
     tally.kind("images written under other seeds that serve");
     let text = Case::new(512, 1, tags).text();
     for _ in 0..40 {
-        let mut other = built.clone();
+        let mut other = own.clone();
         let changed: Vec<usize> = (0..random.within(1, 3))
             .map(|_| random.below(512))
             .collect();
         for &group in &changed {
             other.restate(group, random.within(1, 99) as u32);
         }
-        let lowest = (0..512).find(|&group| other.0[group].0 != built.0[group].0);
+        let lowest = (0..512).find(|&group| other.0[group].0 != own.0[group].0);
         let mut plan = [0; 513];
         plan[0] = 512;
         for (cell, (seed, _)) in plan[1..].iter_mut().zip(&other.0) {
@@ -573,8 +602,9 @@ fn many_groups(tally: &mut Tally, random: &mut Random) {
             image.len() as u64
         );
         assert_eq!(image, other.image());
-        let expected = lowest.map_or(0, |group| (19 << 32) + group as u64);
-        assert_eq!(tally.edited(&image), expected);
+        if let Some(group) = lowest {
+            assert_eq!(tally.edited(&image), not_as_built(group));
+        }
     }
 }
 
@@ -593,7 +623,7 @@ fn large_groups(tally: &mut Tally, random: &mut Random) {
             for (start, seed) in other_pairs(groups.start(line - 1) as u32, seed) {
                 let mut changed = image.clone();
                 changed[LINE * line..][..LINE].copy_from_slice(&line_of_two(start, seed));
-                tally.edited(&changed);
+                examine(tally, &image, &changed);
             }
         }
     }

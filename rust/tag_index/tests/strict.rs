@@ -9,10 +9,12 @@ fn refusal(reason: Reason, place: u32) -> Refusal {
     Refusal { reason, place }
 }
 
-/// The whole case with one line replaced.
-fn with_line(index: usize, line: &[u8; 11]) -> Vec<u8> {
+/// The whole case with lines replaced.
+fn with_lines(lines: &[(usize, &[u8; 11])]) -> Vec<u8> {
     let mut image = IMAGE.to_vec();
-    image[11 * index..11 * (index + 1)].copy_from_slice(line);
+    for &(index, line) in lines {
+        image[11 * index..11 * (index + 1)].copy_from_slice(line);
+    }
     image
 }
 
@@ -83,28 +85,24 @@ fn an_empty_group_must_have_seed_0() {
 
 #[test]
 fn what_checking_refuses_is_refused_alike() {
-    // Seed 7 of group 0 is not building's, so that 19 would be due too.
-    for (damaged, refused) in [
-        (
-            with_line(1, b"    065536\n"),
-            refusal(Reason::MalformedLine, 1),
-        ),
-        (
-            with_line(5, b"         0\n"),
-            refusal(Reason::UnwiredTag, 2),
-        ),
-        (
-            with_line(2, b"    4    1\n"),
-            refusal(Reason::FaultyGroup, 1),
-        ),
-        (with_line(5, b"         2\n"), refusal(Reason::WrongSlot, 2)),
+    // Seed 7 of group 0 is not building's, so that 19 is due too.
+    let seed_7: (usize, &[u8; 11]) = (1, b"    0    7\n");
+    assert_eq!(
+        tag_index::strict_check(&with_lines(&[seed_7])),
+        Err(refusal(Reason::NotAsBuilt, 0))
+    );
+    for (line, text, reason, place) in [
+        (0, b"    3    3\n", Reason::WrongLength, 0),
+        (2, b"    165536\n", Reason::MalformedLine, 2),
+        (5, b"         0\n", Reason::UnwiredTag, 2),
+        (2, b"    4    1\n", Reason::FaultyGroup, 1),
+        (5, b"         2\n", Reason::WrongSlot, 2),
+        (4, b"         3\n", Reason::RepeatedTag, 2),
     ] {
-        let mut damaged = damaged;
-        if refused.place != 1 || refused.reason != Reason::MalformedLine {
-            damaged[11..22].copy_from_slice(b"    0    7\n");
-        }
-        assert_eq!(tag_index::check(&damaged), Err(refused));
-        assert_eq!(tag_index::strict_check(&damaged), Err(refused));
+        let damaged = with_lines(&[seed_7, (line, text)]);
+        let refused = Err(refusal(reason, place));
+        assert_eq!(tag_index::check(&damaged), refused);
+        assert_eq!(tag_index::strict_check(&damaged), refused);
     }
     for length in 0..66 {
         let cut = &IMAGE[..length];
@@ -117,7 +115,7 @@ fn what_checking_refuses_is_refused_alike() {
 fn the_image_of_another_list_is_accepted() {
     // Tag 2 becomes 4, which is alone in the same group.
     assert_eq!((group_of(2, 2), group_of(4, 2)), (0, 0));
-    let edited = with_line(3, b"         4\n");
+    let edited = with_lines(&[(3, b"         4\n")]);
     assert_eq!(tag_index::strict_check(&edited), Ok(()));
     assert_eq!(tag_index::image_of(2, 9, &[1, 3, 4]).unwrap(), edited);
 }

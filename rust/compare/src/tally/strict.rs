@@ -1,5 +1,5 @@
-//! What came of edited images: those that the strict check accepts are built again and must be the same
-//! bytes, and of the others those are counted in which 19 was due.
+//! What came of edited images: those that the strict check accepts are the images of other lists, and
+//! building must write them; the others it must not.
 
 use std::collections::{BTreeMap, BTreeSet};
 
@@ -73,7 +73,7 @@ impl Strict {
             ..
         } = self;
         let groups = self.groups.len();
-        println!("            of the strict check: {edited} images edited; {accepted} of them accepted, and building writes each; {by_checking} refused as checking refuses");
+        println!("            of the strict check: {edited} images edited; {accepted} of them accepted, other lists' images, and building writes each; {by_checking} refused as checking refuses");
         let of_size = |size| self.sizes.get(&size).copied().unwrap_or(0);
         let sizes = [0, 1, 2, 31, LARGEST_GROUP].map(of_size);
         println!("            {not_as_built} refused with 19, at {groups} different groups, {last_group} of them at the last of several; of 0, 1, 2, 31 and 32 tags: {sizes:?}");
