@@ -4,6 +4,7 @@
 use std::collections::{BTreeMap, BTreeSet};
 
 use model::image::Image;
+use model::line::line;
 use model::placing::LARGEST_GROUP;
 use tag_index::raw;
 
@@ -27,8 +28,8 @@ pub struct Strict {
 
 impl Strict {
     /// Counts an edited image and the answer of both sides, or says what is wrong with it. By calls of the
-    /// library alone: checking's refusals come first, and building writes the image exactly if it is
-    /// accepted.
+    /// library alone: checking's refusals come first, building writes the image if it is accepted, and
+    /// otherwise the group named is the lowest that building writes in another way.
     pub fn add(&mut self, image: &[u8], answer: u64) -> Result<(), String> {
         self.edited += 1;
         let checked = raw::check(image);
@@ -40,23 +41,16 @@ impl Strict {
             };
         }
         let stated = Image::open(image).map_err(|_| "it has no line 0")?;
-        match (answer == 0, is_built(image, &stated)) {
-            (true, false) => return Err("building does not write it".to_string()),
-            (false, true) => return Err("building writes it".to_string()),
-            _ => {}
-        }
-        match answer >> 32 {
-            0 => self.accepted += 1,
-            _ => {
-                let group = answer as u32;
+        match lowest_unlike(image, &stated)? {
+            None if answer == 0 => self.accepted += 1,
+            Some(group) if answer == (19 << 32) + group as u64 => {
                 self.not_as_built += 1;
-                self.groups.insert(group);
-                *self
-                    .sizes
-                    .entry(size_of(&stated, group as usize))
-                    .or_insert(0) += 1;
-                self.last_group += u64::from(group > 0 && group as usize + 1 == stated.groups);
+                self.groups.insert(group as u32);
+                *self.sizes.entry(size_of(&stated, group)).or_insert(0) += 1;
+                self.last_group += u64::from(group > 0 && group + 1 == stated.groups);
             }
+            None => return Err("building writes it".to_string()),
+            Some(group) => return Err(format!("building writes group {group} in another way")),
         }
         Ok(())
     }
@@ -89,22 +83,39 @@ impl Strict {
     }
 }
 
-/// Whether the library builds these bytes of the image's tags, its B and the greatest L.
-fn is_built(image: &[u8], stated: &Image) -> bool {
+/// The lowest group that the library builds in another way, from the image's tags, its B and the greatest
+/// L; nothing if it builds the same bytes.
+fn lowest_unlike(image: &[u8], stated: &Image) -> Result<Option<usize>, String> {
     let mut tags: Vec<u32> = (0..stated.tags)
         .filter_map(|slot| stated.slot(slot).ok())
         .collect();
     tags.sort_unstable();
     let text = model::list_text(stated.groups as u32, 65_536, &tags);
     let mut built = vec![0; image.len()];
-    raw::build(&text, &mut built) == image.len() as u64 && built == image
+    if raw::build(&text, &mut built) != image.len() as u64 {
+        return Err("its tags are not built".to_string());
+    }
+    let unlike = |index: usize| line(image, index) != line(&built, index);
+    let first_slot = 1 + stated.groups;
+    let group = (0..stated.groups).find(|&group| {
+        let slots = first_slot + start_of(stated, group)..first_slot + start_of(stated, group + 1);
+        unlike(1 + group) || slots.into_iter().any(unlike)
+    });
+    if group.is_none() && built != image {
+        return Err("building writes another line 0".to_string());
+    }
+    Ok(group)
+}
+
+/// Where a group of a checked image starts; one behind the last, where that ends.
+fn start_of(stated: &Image, group: usize) -> usize {
+    match group < stated.groups {
+        true => stated.group_line(group).map_or(0, |line| line.start),
+        false => stated.tags,
+    }
 }
 
 /// The number of tags of a group of a checked image.
 fn size_of(stated: &Image, group: usize) -> usize {
-    let start = |group: usize| match group < stated.groups {
-        true => stated.group_line(group).map_or(0, |line| line.start),
-        false => stated.tags,
-    };
-    start(group + 1) - start(group)
+    start_of(stated, group + 1) - start_of(stated, group)
 }
