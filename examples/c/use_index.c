@@ -150,8 +150,8 @@ int main(void) {
                 "         9\n");
     check(length);
 
-    /* A site edits the seed of group 0 to one that serves as well, by another plan or in the image
-     * itself: checking accepts, and only the strict check tells. */
+    /* An image with another seed for group 0 that serves as well: checking accepts it, and only the
+     * strict check tells that building does not write it. A cut one is refused by both alike. */
     strict_check(length);
     seeds[1 + 0] = 7;
     write_image(list);

@@ -9,7 +9,8 @@
 //! program can run both and compare. Where the papers leave the method open, the model takes
 //! another one than the proved crates: connected parts decide whether a seed serves a group, all
 //! sequences of each part are listed to find the one that is taken, columns find the least word of the
-//! index without tags, and the strict check builds an image again as a whole. A module is one concept, in the paper's order.
+//! index without tags, and the strict check builds an image again as a whole. A module is one concept, in
+//! the paper's order.
 
 #![forbid(unsafe_code)]
 
