@@ -1,5 +1,6 @@
 /* The C boundary of the two-choice tag index: building, by one call or by planning and writing,
- * checking, lookup and placing a group; and the index without tags: building, checking and lookup.
+ * checking, the strict check, lookup and placing a group; and the index without tags: building,
+ * checking and lookup.
  *
  * The functions stand in libtag_index.a, for x86-64: `rt staticlib tag_index` writes it to
  * target/staticlib/.
@@ -69,8 +70,10 @@ enum tag_index_reason {
     TAG_INDEX_MALFORMED_LIST = 16,           /* line of the list text */
     TAG_INDEX_UNWIRED_TAG = 17,              /* tag 0, reserved for an unwired point; from checking
                                               * the slot that holds it */
-    TAG_INDEX_SEED_DOES_NOT_SERVE = 18       /* group: no choice sequence fills it under its seed in
+    TAG_INDEX_SEED_DOES_NOT_SERVE = 18,      /* group: no choice sequence fills it under its seed in
                                               * the plan */
+    TAG_INDEX_NOT_AS_BUILT = 19              /* group: its seed or slots are not those that building
+                                              * gives its tags */
 };
 
 /* Builds the image of a list text at the beginning of the buffer `image`: tag_index_plan, and, if it
@@ -104,6 +107,14 @@ uint64_t tag_index_write(const uint8_t *text, size_t text_length, const uint32_t
  *
  * Answers 0 if it is accepted, or refusal 11, 12, 17, 13, 14 or 15. */
 uint64_t tag_index_check(const uint8_t *image, size_t image_length);
+
+/* Checks strictly whether an image of any origin is as building writes it.
+ *
+ * Answers 0 if it is accepted, exactly if there are a list, B and L for which tag_index_build writes
+ * these bytes: each group has the least seed of all 65,536 that serves it, an empty one 0, and its tags
+ * stand by the order of choices (see tag_index_place_group). Or a refusal: those of tag_index_check
+ * first, then 19 at the lowest group that has another seed or other slots. */
+uint64_t tag_index_strict_check(const uint8_t *image, size_t image_length);
 
 /* Looks up a tag in an image, checked or not.
  *

@@ -1,6 +1,6 @@
 /* Uses the tag index from C: builds the image of a list, checks it, looks up tags, plans an image and
- * writes it later, places a group, and shows what refusals look like. tools/c-example compiles and
- * runs it. */
+ * writes it later, tells an edited image from a built one, places a group, and shows what refusals look
+ * like. tools/c-example compiles and runs it. */
 #include <stdio.h>
 #include <string.h>
 
@@ -55,6 +55,20 @@ static void check(size_t length) {
                (unsigned)tag_index_refusal_place(answer));
     } else {
         printf("check: accepted\n");
+    }
+}
+
+/* Says whether the image is as building writes it. */
+static void strict_check(size_t length) {
+    uint64_t answer = tag_index_strict_check(image, length);
+    if (tag_index_refusal_number(answer) == TAG_INDEX_NOT_AS_BUILT) {
+        printf("strict check: group %u is not as built\n",
+               (unsigned)tag_index_refusal_place(answer));
+    } else if (tag_index_refused(answer)) {
+        printf("strict check: refusal %u at %u\n", (unsigned)tag_index_refusal_number(answer),
+               (unsigned)tag_index_refusal_place(answer));
+    } else {
+        printf("strict check: as built\n");
     }
 }
 
@@ -135,6 +149,15 @@ int main(void) {
                 "         3\n"
                 "         9\n");
     check(length);
+
+    /* An image with another seed for group 0 that serves as well: checking accepts it, and only the
+     * strict check tells that building does not write it. A cut one is refused by both alike. */
+    strict_check(length);
+    seeds[1 + 0] = 7;
+    write_image(list);
+    check(length);
+    strict_check(length);
+    strict_check(length - 1);
 
     /* A plan is any numbers: 65,536 is no seed, and B is 0 after a refused planning. */
     seeds[1 + 0] = 65536;

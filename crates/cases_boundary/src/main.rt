@@ -1,4 +1,4 @@
-// Runs the nine functions of the C boundary: the whole case of document 01, and refusals of each operation. Each answer is printed
+// Runs the ten functions of the C boundary: the whole case of document 01, and refusals of each operation. Each answer is printed
 // as the number that C gets.
 
 // Prints the case's name and an answer.
@@ -68,6 +68,11 @@ fn image(name: &[u8], image: &[u8]) {
     answer(b"  lookup of 2", tag_index::tag_index_lookup(image, 2));
     answer(b"  lookup of 3", tag_index::tag_index_lookup(image, 3));
     answer(b"  lookup of 4", tag_index::tag_index_lookup(image, 4));
+}
+
+// Prints what the strict check answers.
+fn strict(name: &[u8], image: &[u8]) {
+    answer(name, tag_index::tag_index_strict_check(image));
 }
 
 // Builds an index without tags from a text into a buffer of 77 bytes, and prints the answer and the buffer.
@@ -370,6 +375,51 @@ fn tagless_images() {
     );
 }
 
+// The image of the whole case, and edited ones: each refusal of checking, with seed 7 in group 0 besides, and 19 at either group.
+fn strict_images() {
+    strict(
+        b"strict check of the whole image",
+        b"    3    2\n    0    0\n    1    1\n         2\n         1\n         3\n",
+    );
+    strict(b"strict check of no bytes", b"");
+    strict(
+        b"strict check, last slot malformed",
+        b"    3    2\n    0    7\n    1    1\n         2\n         1\n        03\n",
+    );
+    strict(
+        b"strict check, tag 0 in slot 2",
+        b"    3    2\n    0    7\n    1    1\n         2\n         1\n         0\n",
+    );
+    strict(
+        b"strict check, start past N",
+        b"    3    2\n    0    7\n    4    1\n         2\n         1\n         3\n",
+    );
+    strict(
+        b"strict check, tag of another group",
+        b"    3    2\n    0    7\n    1    1\n         2\n         1\n         2\n",
+    );
+    strict(
+        b"strict check, tag twice",
+        b"    3    2\n    0    7\n    1    1\n         2\n         3\n         3\n",
+    );
+    strict(
+        b"strict check, seed 7 in group 0",
+        b"    3    2\n    0    7\n    1    1\n         2\n         1\n         3\n",
+    );
+    strict(
+        b"strict check, group 1 under seed 2",
+        b"    3    2\n    0    0\n    1    2\n         2\n         3\n         1\n",
+    );
+    strict(
+        b"strict check, tags with the same two places exchanged",
+        b"    2    1\n    0    0\n      1193\n       599\n",
+    );
+    strict(
+        b"strict check, seed 1 in the last of 2 empty groups",
+        b"    0    2\n    0    0\n    0    1\n",
+    );
+}
+
 fn main() {
     building();
     plans();
@@ -379,4 +429,5 @@ fn main() {
     groups();
     tagless_building();
     tagless_images();
+    strict_images();
 }

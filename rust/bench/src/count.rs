@@ -12,11 +12,12 @@ use tag_index::{LONGEST_IMAGE, PLAN_CELLS};
 /// Lookups in a repetition.
 const LOOKUPS: usize = 1_000;
 
-const OPERATIONS: [&str; 11] = [
+const OPERATIONS: [&str; 12] = [
     "build",
     "plan",
     "write",
     "check",
+    "strict_check",
     "hits",
     "misses",
     PLACE,
@@ -53,7 +54,7 @@ fn cases_of(operation: &str) -> Vec<Case> {
             .into_iter()
             .chain(cases::unserved())
             .collect(),
-        "plan" | "write" => cases::planned(),
+        "plan" | "write" | "strict_check" => cases::planned(),
         _ if operation.starts_with(TAGLESS) => cases::planned(),
         _ => cases::built(),
     }
@@ -155,9 +156,10 @@ fn repeat_on_image(operation: &str, case: &Case, image: &[u8], version: Version,
         _ => case.shuffled(&mut random),
     };
     queries.truncate(LOOKUPS);
-    let (check, lookup) = match operation.starts_with(TAGLESS) {
-        true => (version.tagless_check, version.tagless_lookup),
-        false => (version.check, version.lookup),
+    let (check, lookup) = match operation {
+        "strict_check" => (version.strict_check, version.lookup),
+        _ if operation.starts_with(TAGLESS) => (version.tagless_check, version.tagless_lookup),
+        _ => (version.check, version.lookup),
     };
     for _ in 0..repetitions {
         if operation.ends_with("check") {

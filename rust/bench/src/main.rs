@@ -4,6 +4,7 @@
 //!     bench --printer PATH                    the same with another printer
 //!     bench --slot-lines                      the table of slot lines read by a hit alone
 //!     bench --tagless                         the tables of the index without tags alone
+//!     bench --strict                          the tables of the strict check alone
 //!     bench --plots DIR                       the growth tables, and DIR/growth-*.svg
 //!     bench --count CASE VERSION REPETITIONS  one case, for counting instructions; `--count` alone names the cases
 //!     bench --print                           the plain version as an index printer
@@ -14,6 +15,7 @@ mod growth;
 mod plain;
 mod plot;
 mod slot_lines;
+mod strict;
 mod tables;
 mod tagless;
 mod timing;
@@ -41,6 +43,7 @@ fn main() -> ExitCode {
         }
         ["--slot-lines"] => slot_lines::print(),
         ["--tagless"] => tagless::print(),
+        ["--strict"] => strict::print(),
         ["--print"] => {
             if let Err(error) = print_index() {
                 eprintln!("bench: {error}");
@@ -61,7 +64,7 @@ fn main() -> ExitCode {
             }
         }
         _ => {
-            eprintln!("usage: bench [--printer PATH | --slot-lines | --tagless | --plots DIR | --count [CASE VERSION REPETITIONS] | --print]");
+            eprintln!("usage: bench [--printer PATH | --slot-lines | --tagless | --strict | --plots DIR | --count [CASE VERSION REPETITIONS] | --print]");
             return ExitCode::from(2);
         }
     }

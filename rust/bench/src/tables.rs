@@ -1,8 +1,9 @@
-//! Building, checking and lookup of each case, planning, writing, placing and printing: every version's
-//! time, with its results asserted.
+//! Building, checking and lookup of each case, planning, writing, placing, the strict check and printing:
+//! every version's time, with its results asserted.
 
 use crate::cases::{self, Case, Groups, LIMIT};
 use crate::slot_lines;
+use crate::strict;
 use crate::tagless;
 use crate::timing::{measure, median, print as print_samples, time, Sample, Timed, REPETITIONS};
 use crate::versions::{Version, BOTH};
@@ -35,6 +36,7 @@ pub fn print(printer: &Path) {
     println!("  plain          plain Rust on the same text or tags, rust/bench/src/plain.rs; it builds in one call");
     println!("  hash map       std HashMap<u32, u32> of the parsed list");
     println!("  sorted slice   pairs of the parsed list, by binary search");
+    println!("  build          the proved library building the same list, beside the strict check");
     println!("  with tags      the proved library on the image with tags of the same list, beside the index without tags");
     println!("Answers, plans and images are asserted equal, byte for byte, to the model's: after every build, planning and writing, and after every pass of checks, lookups or placings, outside the times.");
     println!("Buffers are filled with '.' before every build and writing, cells with {NO_SEED} before every planning, outside the times; L = {LIMIT} in all cases.");
@@ -50,6 +52,7 @@ pub fn print(printer: &Path) {
     rows.extend(printed.iter().map(|case| print_index(case, printer)));
     rows.extend(cases::placed().iter().map(place));
     rows.extend(built.iter().map(check));
+    let strictly = strict::rows(&planned);
     let mut random = Random::new(3);
     for case in &built {
         let hits = case.shuffled(&mut random);
@@ -61,7 +64,7 @@ pub fn print(printer: &Path) {
 
     println!("\nSummary: medians, and the median of the ratios");
     println!("  {:<76}{:>10}{:>11}  ratio", "", "proved", "plain");
-    for row in rows.iter().chain(&without_tags) {
+    for row in rows.iter().chain(&strictly).chain(&without_tags) {
         let [proved, plain] = [&row.samples[0], &row.samples[1]];
         println!(
             "  {:<76}{:>10}{:>11}  {:.2}",
@@ -71,6 +74,7 @@ pub fn print(printer: &Path) {
             median(&proved.ratios(plain))
         );
     }
+    strict::print_beside(&strictly);
     slot_lines::print();
     tagless::print_beside(&without_tags);
     tagless::print_sizes(&built);

@@ -1,4 +1,4 @@
-//! Images, whole and damaged: checking, and lookups of tags that are there and tags that are not.
+//! Images, whole and damaged: checking, the strict check, and lookups of tags that are there and tags that are not.
 
 use model::hash::group_of;
 use model::line::{line_of_tag, line_of_two, read_tag, read_two, LINE};
@@ -77,6 +77,7 @@ fn asked(random: &mut Random, case: &Case, most: usize) -> Vec<u32> {
 /// What both sides say of one image.
 fn examine(tally: &mut Tally, image: &[u8], tags: &[u32]) {
     let checked = tally.check(image);
+    tally.strict_check(image);
     let found: Vec<(u32, u64)> = tags
         .iter()
         .map(|&tag| (tag, tally.lookup(image, tag)))

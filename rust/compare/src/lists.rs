@@ -72,7 +72,7 @@ pub fn compare(tally: &mut Tally, random: &mut Random, size: &Size) {
     }
 }
 
-/// Builds, and where that succeeds checks the image, looks up every tag and a few others, and
+/// Builds, and where that succeeds checks the image, strictly too, looks up every tag and a few others, and
 /// builds again with the least limit that suffices and with one less. Answers what building answered.
 pub fn rebuild(tally: &mut Tally, random: &mut Random, case: &Case) -> u64 {
     let text = case.text();
@@ -82,6 +82,7 @@ pub fn rebuild(tally: &mut Tally, random: &mut Random, case: &Case) -> u64 {
     }
     let image = model::image_of(&case.tags, case.groups, case.limit).expect("it was built");
     tally.check(&image);
+    assert_eq!(tally.strict_check(&image), 0);
     for &tag in &case.tags {
         tally.lookup(&image, tag);
     }

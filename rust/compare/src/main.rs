@@ -5,6 +5,7 @@
 //!     compare --long           more than twenty million, and many more lists
 //!     compare --small          few cases, in memory of just the right size: for a memory checker
 //!     compare --tagless        the cases of the index without tags alone
+//!     compare --strict         the images edited for the strict check alone
 //!     compare --stored         the stored outputs of the program crates, printed again from the model
 //!     compare --print PROGRAM  what the model writes for the cases of a program crate
 //!     compare --soak SECONDS   all calls again and again in one process, whose memory must not grow
@@ -20,6 +21,7 @@ mod plans;
 mod printing;
 mod soak;
 mod stored;
+mod strict;
 mod tagless;
 mod tally;
 mod texts;
@@ -66,6 +68,11 @@ pub struct Size {
     /// places, from 1 on, and rounds of all shapes.
     every_pair: usize,
     choices: usize,
+    /// For the strict check: rounds of edits in small images of many kinds, images of many groups or of
+    /// large ones, and by which steps every seed of a group is stated: 1 is all of them.
+    edits: usize,
+    large_edits: usize,
+    seed_step: usize,
     /// For the index without tags: rounds of lists of many groups, and of groups of each size and kind.
     many_groups: usize,
     words: usize,
@@ -91,6 +98,9 @@ const SMALL: Size = Size {
     groups: 1,
     every_pair: 3,
     choices: 1,
+    edits: 1,
+    large_edits: 1,
+    seed_step: 4_001,
     many_groups: 1,
     words: 1,
     least: Least {
@@ -98,6 +108,7 @@ const SMALL: Size = Size {
         large: 100,
         words: 1_000,
         choices: 100,
+        edited: 1_000,
     },
 };
 
@@ -120,6 +131,9 @@ const USUAL: Size = Size {
     groups: 40,
     every_pair: 5,
     choices: 210,
+    edits: 2_600,
+    large_edits: 6,
+    seed_step: 1,
     many_groups: 40,
     words: 24,
     least: Least {
@@ -127,6 +141,7 @@ const USUAL: Size = Size {
         large: 1_000,
         words: 100_000,
         choices: 100_000,
+        edited: 1_000_000,
     },
 };
 
@@ -149,6 +164,9 @@ const LONG: Size = Size {
     groups: 400,
     every_pair: 5,
     choices: 2_100,
+    edits: 26_000,
+    large_edits: 60,
+    seed_step: 1,
     many_groups: 400,
     words: 240,
     least: Least {
@@ -156,12 +174,14 @@ const LONG: Size = Size {
         large: 10_000,
         words: 1_000_000,
         choices: 1_000_000,
+        edited: 2_000_000,
     },
 };
 
 enum Task {
     Compare,
     Tagless,
+    Strict,
     Stored,
     Print(String),
     Soak(Duration),
@@ -204,6 +224,7 @@ fn options() -> Result<Options, String> {
                 options.printer = None;
             }
             "--tagless" => options.task = Task::Tagless,
+            "--strict" => options.task = Task::Strict,
             "--stored" => options.task = Task::Stored,
             "--print" => options.task = Task::Print(value()?),
             "--soak" => options.task = Task::Soak(Duration::from_secs(number(value()?)?)),
@@ -227,6 +248,7 @@ fn main() -> ExitCode {
     let passed = match &options.task {
         Task::Compare => compare(&options),
         Task::Tagless => compare_tagless(&options),
+        Task::Strict => compare_strict(&options),
         Task::Stored => stored::compare(&root().join("crates")),
         Task::Print(program) => print(program),
         Task::Soak(time) => soak::run(options.seed, *time),
@@ -257,6 +279,20 @@ fn compare_tagless(options: &Options) -> bool {
     true
 }
 
+/// The images edited for the strict check alone.
+fn compare_strict(options: &Options) -> bool {
+    let begun = Instant::now();
+    let mut tally = Tally::new(options.exact);
+    strict::compare(&mut tally, &mut Random::new(options.seed), &options.size);
+    let complete = tally.report_strict(options.size.least.edited);
+    let compared = tally.compared();
+    println!(
+        "compare: {compared} answers for edited images, no difference; {:.1} s",
+        begun.elapsed().as_secs_f64()
+    );
+    complete
+}
+
 fn compare(options: &Options) -> bool {
     let begun = Instant::now();
     if let Some(printer) = options.printer.as_ref().filter(|path| !path.is_file()) {
@@ -275,6 +311,7 @@ fn compare(options: &Options) -> bool {
     choices::compare(&mut tally, &mut random, size);
     widths::compare(&mut tally, &mut random);
     tagless::compare(&mut tally, &mut random, size);
+    strict::compare(&mut tally, &mut Random::new(options.seed), size);
     if let Some(printer) = &options.printer {
         printing::compare(&mut tally, &mut random, size, printer);
     }

@@ -33,6 +33,8 @@ struct Expected {
     found: Vec<(u32, u64)>,
     /// One byte of the image changed, and what the model says then.
     damage: Option<Damage>,
+    /// What the strict check says of the image as it is, and with that byte changed.
+    strictly: [u64; 2],
     tagless: Tagless,
 }
 
@@ -118,9 +120,11 @@ fn expected(random: &mut Random) -> Vec<Expected> {
                 .iter()
                 .map(|&tag| (tag, model::answer_lookup(&buffer, tag)))
                 .collect();
+            let mut strictly = [model::answer_strict_check(&buffer); 2];
             let damage = (built >> 32 == 0).then(|| {
                 let (at, byte, changed) = damaged(random, &buffer);
                 let tag = tags[random.below(tags.len())];
+                strictly[1] = model::answer_strict_check(&changed);
                 Damage {
                     at,
                     byte,
@@ -130,6 +134,7 @@ fn expected(random: &mut Random) -> Vec<Expected> {
             });
             Expected {
                 checked: model::answer_check(&buffer),
+                strictly,
                 tagless: tagless(random, &text, case.groups, &tags),
                 text,
                 room,
@@ -218,6 +223,7 @@ fn round(expected: &[Expected], buffer: &mut [u8]) -> u64 {
             ));
         }
         hold(raw::check(image), one.checked, "checking");
+        hold(raw::strict_check(image), one.strictly[0], "strict check");
         for &(tag, found) in &one.found {
             hold(raw::lookup(image, tag), found, "lookup");
         }
@@ -227,6 +233,11 @@ fn round(expected: &[Expected], buffer: &mut [u8]) -> u64 {
                 raw::check(image),
                 damage.checked,
                 "checking a damaged image",
+            );
+            hold(
+                raw::strict_check(image),
+                one.strictly[1],
+                "strict check of a damaged image",
             );
             let (tag, found) = damage.found;
             hold(raw::lookup(image, tag), found, "lookup in a damaged image");

@@ -1,6 +1,7 @@
 //! One case on both sides: calls the library and the model, compares, and counts.
 
 pub mod choices;
+pub mod strict;
 mod words;
 
 use std::collections::{BTreeMap, BTreeSet};
@@ -12,6 +13,7 @@ use tag_index::{raw, Index, Plan, Reason, Refusal, TaglessIndex, UNKNOWN};
 
 use crate::lists::Case;
 use choices::Choices;
+use strict::{Strict, BEFORE_19};
 use words::Words;
 
 /// Bytes behind the buffer that building or writing is lent, which must stay as they are.
@@ -20,7 +22,7 @@ const GUARD: usize = 32;
 /// Cells before and behind the plan that planning is lent, which must stay as they are.
 const GUARD_CELLS: usize = 4;
 
-/// The nine calls over the C boundary, and the printer's run.
+/// The ten calls over the C boundary, and the printer's run.
 #[derive(Clone, Copy, PartialEq, Eq, PartialOrd, Ord)]
 pub enum Operation {
     Placing,
@@ -28,6 +30,7 @@ pub enum Operation {
     Writing,
     Building,
     Checking,
+    StrictChecking,
     Lookup,
     TaglessBuilding,
     TaglessChecking,
@@ -36,12 +39,13 @@ pub enum Operation {
 }
 
 impl Operation {
-    pub const ALL: [Operation; 10] = [
+    pub const ALL: [Operation; 11] = [
         Operation::Placing,
         Operation::Planning,
         Operation::Writing,
         Operation::Building,
         Operation::Checking,
+        Operation::StrictChecking,
         Operation::Lookup,
         Operation::TaglessBuilding,
         Operation::TaglessChecking,
@@ -56,6 +60,7 @@ impl Operation {
             Operation::Writing => "writing",
             Operation::Building => "building",
             Operation::Checking => "checking",
+            Operation::StrictChecking => "strict check",
             Operation::Lookup => "lookup",
             Operation::TaglessBuilding => "building without tags",
             Operation::TaglessChecking => "checking without tags",
@@ -72,6 +77,7 @@ impl Operation {
             Operation::Writing => &[2, 5, 6, 8, 9, 10, 16, 17, 18],
             Operation::Building | Operation::TaglessBuilding => &[4, 5, 6, 7, 8, 9, 10, 16, 17],
             Operation::Checking => &[11, 12, 13, 14, 15, 17],
+            Operation::StrictChecking => &[11, 12, 13, 14, 15, 17, 19],
             Operation::Lookup | Operation::TaglessChecking | Operation::TaglessLookup => {
                 &[11, 12, 13]
             }
@@ -92,12 +98,12 @@ impl Operation {
         }
     }
 
-    /// Whether the refusal names a place. 17 names a slot in checking; otherwise it is the first tag
+    /// Whether the refusal names a place. 17 names a slot in both checks; otherwise it is the first tag
     /// that is 0. Placing has one group, so its 7 names none.
     fn names_place(self, number: usize) -> bool {
         let reason = Reason::from_number(number as u32);
         reason.and_then(Reason::place_kind).is_some()
-            && (number != 17 || self == Operation::Checking)
+            && (number != 17 || matches!(self, Operation::Checking | Operation::StrictChecking))
             && (number != 7 || self != Operation::Placing)
     }
 
@@ -108,7 +114,9 @@ impl Operation {
             Operation::Planning => "plan",
             Operation::Writing => "length",
             Operation::Building | Operation::TaglessBuilding => "length",
-            Operation::Checking | Operation::TaglessChecking => "accepted",
+            Operation::Checking | Operation::StrictChecking | Operation::TaglessChecking => {
+                "accepted"
+            }
             Operation::Lookup | Operation::TaglessLookup => "number",
             Operation::Printing => "image",
         }
@@ -124,8 +132,8 @@ impl Operation {
 /// anything else.
 #[derive(Default)]
 struct Answers {
-    refused: [u64; 19],
-    places: [BTreeSet<u32>; 19],
+    refused: [u64; 20],
+    places: [BTreeSet<u32>; 20],
     unknown: u64,
     success: u64,
 }
@@ -274,12 +282,14 @@ pub struct Least {
     pub words: usize,
     /// Groups made or drawn for the order of choices, besides those of up to five tags.
     pub choices: u64,
+    /// Images edited for the strict check.
+    pub edited: u64,
 }
 
 pub struct Tally {
     kind: &'static str,
     kinds: BTreeMap<(Operation, &'static str), u64>,
-    answers: [Answers; 10],
+    answers: [Answers; 11],
     placed: Placed,
     plans: Plans,
     /// What decided in the groups that were placed, and in those of images written under a plan.
@@ -290,6 +300,8 @@ pub struct Tally {
     every_group: BTreeMap<usize, (u64, u64)>,
     /// Groups made or drawn for the order of choices.
     chosen: u64,
+    /// Images edited for the strict check.
+    strict: Strict,
     /// Cases with several refusals due at once, by the first two of them in the order written.
     pairs: BTreeMap<(Operation, u32, u32), u64>,
     unwired: Unwired,
@@ -314,6 +326,7 @@ impl Tally {
             written: Choices::default(),
             every_group: BTreeMap::new(),
             chosen: 0,
+            strict: Strict::default(),
             pairs: BTreeMap::new(),
             unwired: Unwired::default(),
             indexes: Indexes::default(),
@@ -423,11 +436,11 @@ impl Tally {
         self.words.add(case, answer, image);
     }
 
-    /// Writes the tags of a text with a plan into a buffer of `room` bytes, and answers what both sides
-    /// answered.
+    /// Writes the tags of a text with a plan into a buffer of `room` bytes, checks some of the images
+    /// strictly, and answers what both sides answered to writing.
     pub fn write(&mut self, text: &[u8], plan: &Cells, room: usize) -> u64 {
         let lent = Box::new(*plan);
-        let (answer, _) = self.fill(
+        let (answer, buffer) = self.fill(
             Operation::Writing,
             text,
             room,
@@ -455,6 +468,12 @@ impl Tally {
             for (part, &seed) in members.iter().zip(seeds) {
                 let word = model::placing::word_taken(part, seed).expect("both sides wrote it");
                 self.written.add(part, seed, word);
+            }
+            // Under a plan of other seeds the image may be one that building does not write. One in eight
+            // is enough: images of one list come several times.
+            let written = self.answers[Operation::Writing as usize].success;
+            if written.is_multiple_of(8) {
+                self.strict_check(&buffer[..answer as usize]);
             }
         }
         answer
@@ -594,6 +613,36 @@ impl Tally {
             raw::check,
             model::answer_check,
         )
+    }
+
+    /// Checks an image strictly on both sides and through the binding, and answers what all answered.
+    pub fn strict_check(&mut self, image: &[u8]) -> u64 {
+        let answer = self.read(
+            Operation::StrictChecking,
+            "",
+            image,
+            raw::strict_check,
+            model::answer_strict_check,
+        );
+        let taken = tag_index::strict_check(image).map_or_else(answer_of, |()| 0);
+        if taken != answer {
+            self.differs("strict check by the binding", image, taken, answer, "");
+        }
+        answer
+    }
+
+    /// Checks an edited image strictly, and says by calls of the library alone that what is accepted is
+    /// what building writes, and nothing else.
+    pub fn edited(&mut self, image: &[u8]) -> u64 {
+        let answer = self.strict_check(image);
+        if let Err(fault) = self.strict.add(image, answer) {
+            let (kind, said) = (self.kind, said(answer));
+            differs(&format!(
+                "strict check ({kind}): both sides answer {said}, and {fault}\n{}",
+                shown(image)
+            ));
+        }
+        answer
     }
 
     /// Looks up a tag in an image on both sides, and answers what both answered.
@@ -835,6 +884,23 @@ impl Tally {
         complete
     }
 
+    /// Prints what came of edited images, and says whether there was enough, and each refusal of checking
+    /// where 19 was due too.
+    pub fn report_strict(&self, least: u64) -> bool {
+        let mut complete = self.strict.report(least);
+        let operation = Operation::StrictChecking;
+        let met = BEFORE_19.map(|number| self.pairs.get(&(operation, number, 19)).copied());
+        let counts: Vec<String> = (BEFORE_19.iter().zip(met))
+            .map(|(number, count)| format!("{number} in {} cases", count.unwrap_or(0)))
+            .collect();
+        println!(
+            "            of the strict check, where 19 was due too: {}",
+            counts.join(", ")
+        );
+        complete &= met.iter().all(Option::is_some);
+        complete
+    }
+
     fn differs(&self, case: &str, input: &[u8], answer: u64, expected: u64, more: &str) -> ! {
         let (kind, answer, expected) = (self.kind, said(answer), said(expected));
         differs(&format!(
@@ -878,7 +944,7 @@ impl Tally {
             }
         }
         complete &= self.placed.report(least.large) && self.report_plans();
-        complete &= self.report_choices(least.choices);
+        complete &= self.report_choices(least.choices) & self.report_strict(least.edited);
         complete &= self.unwired.report("") & self.indexes.report("Index");
         complete &= self.words.report(least.words);
         complete &= self.tagless_unwired.report(" without tags");

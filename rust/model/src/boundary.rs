@@ -1,10 +1,10 @@
-//! The answers of the nine calls over the C boundary.
+//! The answers of the ten calls over the C boundary.
 //!
 //! "Each call answers one 64-bit number: the length, the tag's number or 0 for an accepted check;
 //! 4,294,967,295 for unknown; and for a refusal its number × 2^32 plus its place." Placing a group
 //! answers its seed, and leaves the choice word in a cell that it is lent. Planning answers B, and
-//! leaves the plan in 513 cells. The three calls of the index without tags answer as building, checking
-//! and lookup do.
+//! leaves the plan in 513 cells. The strict check answers as checking does. The three calls of the index
+//! without tags answer as building, checking and lookup do.
 
 use crate::building::build;
 use crate::checking::check;
@@ -13,6 +13,7 @@ use crate::placing::place_group;
 use crate::planning::{plan_list, Plan};
 use crate::printer::read_bounded_list;
 use crate::refusal::Refusal;
+use crate::strict_checking::strict_check;
 use crate::tagless;
 use crate::writing::write_list;
 
@@ -73,6 +74,14 @@ fn plan_of(cells: &Cells) -> Plan {
 /// 0 if checking accepts the image.
 pub fn answer_check(image: &[u8]) -> u64 {
     match check(image) {
+        Ok(()) => 0,
+        Err(refusal) => answer_of_refusal(refusal),
+    }
+}
+
+/// 0 if the strict check accepts the image (document 02, §7).
+pub fn answer_strict_check(image: &[u8]) -> u64 {
+    match strict_check(image) {
         Ok(()) => 0,
         Err(refusal) => answer_of_refusal(refusal),
     }

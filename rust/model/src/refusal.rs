@@ -1,6 +1,6 @@
 //! Refusals: "A refusal carries a number and a place; the place is 0 where none is named."
 
-/// Why an operation stopped: the papers' number, 1 to 18, and the place.
+/// Why an operation stopped: the papers' number, 1 to 19, and the place.
 #[derive(Debug, Clone, Copy, PartialEq, Eq)]
 pub struct Refusal {
     pub number: u32,

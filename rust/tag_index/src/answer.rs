@@ -67,6 +67,16 @@ const CHECKING: [Allowed; 6] = [
     (Reason::WrongSlot, SLOTS),
     (Reason::RepeatedTag, SLOTS),
 ];
+/// All refusals of checking, and 19 behind them.
+const STRICT_CHECKING: [Allowed; 7] = [
+    (Reason::WrongLength, NO_PLACE),
+    (Reason::MalformedLine, LINES_OF_IMAGE),
+    (Reason::UnwiredTag, SLOTS),
+    (Reason::FaultyGroup, GROUPS),
+    (Reason::WrongSlot, SLOTS),
+    (Reason::RepeatedTag, SLOTS),
+    (Reason::NotAsBuilt, GROUPS),
+];
 const LOOKUP: [Allowed; 3] = [
     (Reason::WrongLength, NO_PLACE),
     (Reason::MalformedLine, LINES_OF_IMAGE),
@@ -151,6 +161,17 @@ pub(crate) fn checked(answer: u64) -> Result<(), Refusal> {
     }
     if answer != 0 {
         not_allowed("checking", answer);
+    }
+    Ok(())
+}
+
+/// The strict check's answer: 0, or the refusal.
+pub(crate) fn strictly_checked(answer: u64) -> Result<(), Refusal> {
+    if let Some(refusal) = refusal(answer, &STRICT_CHECKING) {
+        return Err(refusal);
+    }
+    if answer != 0 {
+        not_allowed("the strict check", answer);
     }
     Ok(())
 }
@@ -285,6 +306,7 @@ mod tests {
             assert_eq!(taken(50_699, 60_000), Ok(50_699));
         }
         assert_eq!(checked(0), Ok(()));
+        assert_eq!(strictly_checked(0), Ok(()));
         assert_eq!(looked_up(0), Ok(Some(0)));
         assert_eq!(looked_up(4_095), Ok(Some(4_095)));
         assert_eq!(looked_up(UNKNOWN), Ok(None));
@@ -369,6 +391,7 @@ mod tests {
                 assert_eq!(has(&PLANNING), planned_is(answer, refusal));
                 assert_eq!(has(&WRITING), written_is(answer, refusal));
                 assert_eq!(has(&CHECKING), checked_is(answer, refusal));
+                assert_eq!(has(&STRICT_CHECKING), strictly_checked_is(answer, refusal));
                 assert_eq!(has(&LOOKUP), looked_up_is(answer, refusal));
                 assert_eq!(has(&PLACING), placed_is(answer, refusal));
                 assert_eq!(has(&TAGLESS_BUILDING), tagless_built_is(answer, refusal));
@@ -390,6 +413,36 @@ mod tests {
         assert!(catch_unwind(|| built(refused(17, 1), 0)).is_err());
         assert!(catch_unwind(|| checked(refused(17, 4_096))).is_err());
         assert!(catch_unwind(|| looked_up(refused(17, 0))).is_err());
+    }
+
+    #[test]
+    fn refusal_19_names_a_group_and_comes_from_the_strict_check_alone() {
+        for place in [0, 1, 511] {
+            let refusal = Refusal {
+                reason: Reason::NotAsBuilt,
+                place,
+            };
+            assert_eq!(strictly_checked(refused(19, place.into())), Err(refusal));
+        }
+        assert!(catch_unwind(|| strictly_checked(refused(19, 512))).is_err());
+        for place in [0, 1] {
+            assert!(catch_unwind(|| checked(refused(19, place))).is_err());
+            assert!(catch_unwind(|| looked_up(refused(19, place))).is_err());
+            assert!(catch_unwind(|| tagless_checked(refused(19, place))).is_err());
+        }
+        // What the strict check has with checking it takes at the same places.
+        for number in [11, 12, 13, 14, 15, 17] {
+            for place in [0, 1, 511, 512, 4_095, 4_096, 4_608, 4_609] {
+                let answer = refused(number, place);
+                let taken =
+                    |check: fn(u64) -> Result<(), Refusal>| catch_unwind(|| check(answer)).ok();
+                assert_eq!(
+                    taken(strictly_checked),
+                    taken(checked),
+                    "{number} at {place}"
+                );
+            }
+        }
     }
 
     #[test]
@@ -444,6 +497,10 @@ mod tests {
 
     fn checked_is(answer: u64, refusal: Refusal) -> bool {
         catch_unwind(|| checked(answer)).is_ok_and(|taken| taken == Err(refusal))
+    }
+
+    fn strictly_checked_is(answer: u64, refusal: Refusal) -> bool {
+        catch_unwind(|| strictly_checked(answer)).is_ok_and(|taken| taken == Err(refusal))
     }
 
     fn looked_up_is(answer: u64, refusal: Refusal) -> bool {
@@ -525,6 +582,10 @@ mod tests {
         for answer in [1, UNKNOWN, UNKNOWN + 1, refused(11, 1), refused(13, 512)] {
             assert!(catch_unwind(|| checked(answer)).is_err(), "{answer}");
         }
+        for answer in [1, UNKNOWN, refused(11, 1), refused(18, 0), refused(20, 0)] {
+            let taken = catch_unwind(|| strictly_checked(answer));
+            assert!(taken.is_err(), "{answer}");
+        }
         for answer in [4_096, UNKNOWN - 1, refused(14, 0), refused(12, 4_609)] {
             assert!(catch_unwind(|| looked_up(answer)).is_err(), "{answer}");
         }
@@ -555,6 +616,7 @@ mod tests {
         for answer in [
             refused(18, 0),
             refused(19, 0),
+            refused(20, 0),
             u64::MAX,
             refused(9, 1),
             refused(6, 0),

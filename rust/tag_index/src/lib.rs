@@ -1,5 +1,6 @@
 //! The two-choice tag index for a Rust service: building an image from a list, at once or by a plan and
-//! the writing of the image under it, checking it, looking up tags in it, and placing a group by itself.
+//! the writing of the image under it, checking it, looking up tags in it, telling whether building made
+//! it, and placing a group by itself.
 //! And the [index without tags](tagless), for a box that has no store for the tags.
 //!
 //! The work is done by the proved functions behind the C boundary; this crate lends them slices and
@@ -17,6 +18,8 @@
 //! assert_eq!(index.lookup(4), None);
 //! // An image that nobody checked can be looked up in too, and a fault that is met is refused.
 //! assert_eq!(tag_index::lookup(image, 3)?, Some(2));
+//! // Whether an image that came from somewhere is as building writes it.
+//! tag_index::strict_check(image)?;
 //! // Building is two calls in turn: the seeds on one day, and the image under them at another time.
 //! let plan = tag_index::plan(&text)?;
 //! let mut later = [0; tag_index::LONGEST_IMAGE];
@@ -244,6 +247,45 @@ pub fn image_of(groups: u32, limit: u32, tags: &[u32]) -> Result<Vec<u8>, BuildE
 /// If the library's answer is not one that the papers allow; the proved library's always is.
 pub fn check(image: &[u8]) -> Result<(), Refusal> {
     answer::checked(raw::check(image))
+}
+
+/// Checks strictly whether an image is as building writes it: it is accepted exactly if there are a list,
+/// a group count B and a seed limit L for which [`build`] writes these bytes.
+///
+/// First come the refusals of [`check`]. Then each group must have the seed and the slots that building
+/// gives its tags: the least seed of all 65,536 that serves it, 0 if the group is empty, and of the ways
+/// to stand under it the one with the fewest second places, between equals by the lowest tag. The lowest
+/// group that has others is refused with [`Reason::NotAsBuilt`]. An image that [`write()`] made under
+/// other seeds than planning's is such a one.
+///
+/// It takes about as long as building the image again.
+///
+/// ```
+/// use tag_index::Reason;
+/// let image = tag_index::image_of(2, 9, &[1, 2, 3])?;
+/// tag_index::strict_check(&image)?;
+///
+/// // A site has edited the seed of group 0. It serves too, and every lookup answers as before.
+/// let mut edited = image.clone();
+/// edited[11..22].copy_from_slice(b"    0    7\n");
+/// tag_index::check(&edited)?;
+/// let refusal = tag_index::strict_check(&edited).unwrap_err();
+/// assert_eq!((refusal.reason, refusal.place), (Reason::NotAsBuilt, 0));
+/// assert_eq!(
+///     refusal.to_string(),
+///     "refusal 19: the seed or the slots of group 0 are not those that building gives its tags"
+/// );
+///
+/// // What checking refuses is refused alike.
+/// assert_eq!(tag_index::strict_check(&image[1..]), tag_index::check(&image[1..]));
+/// # Ok::<(), tag_index::BuildError>(())
+/// ```
+///
+/// # Panics
+///
+/// If the library's answer is not one that the papers allow; the proved library's always is.
+pub fn strict_check(image: &[u8]) -> Result<(), Refusal> {
+    answer::strictly_checked(raw::strict_check(image))
 }
 
 /// Looks up a tag: its number, 0 to N - 1, or nothing if the image does not have it.

@@ -1,4 +1,4 @@
-//! The nine functions of the C boundary, and a safe function over each that answers its 64-bit
+//! The ten functions of the C boundary, and a safe function over each that answers its 64-bit
 //! number as it is. All `unsafe` of this crate stands here.
 //!
 //! Each function takes any bytes, numbers and lengths, and reads and writes only inside the ranges
@@ -32,6 +32,7 @@ mod c {
             image_length: usize,
         ) -> u64;
         pub fn tag_index_check(image: *const u8, image_length: usize) -> u64;
+        pub fn tag_index_strict_check(image: *const u8, image_length: usize) -> u64;
         pub fn tag_index_lookup(image: *const u8, image_length: usize, tag: u32) -> u64;
         pub fn tag_index_place_group(
             tags: *const u32,
@@ -121,6 +122,21 @@ pub fn check(image: &[u8]) -> u64 {
     // SAFETY: pointer and length come from a slice that lives through the call, and the function
     // only reads.
     unsafe { c::tag_index_check(image.as_ptr(), image.len()) }
+}
+
+/// The strict check's answer: 0 if accepted, or refusal number × 2^32 + place.
+///
+/// ```
+/// use tag_index::raw::{check, strict_check};
+/// assert_eq!(strict_check(b"    0    1\n    0    0\n"), 0);
+/// // Checking takes any seed of an empty group; building gives it 0.
+/// assert_eq!(check(b"    0    1\n    0    7\n"), 0);
+/// assert_eq!(strict_check(b"    0    1\n    0    7\n"), 19 << 32);
+/// ```
+pub fn strict_check(image: &[u8]) -> u64 {
+    // SAFETY: pointer and length come from a slice that lives through the call, and the function
+    // only reads.
+    unsafe { c::tag_index_strict_check(image.as_ptr(), image.len()) }
 }
 
 /// Lookup's answer: the tag's number, 4,294,967,295 for unknown, or refusal number × 2^32 + place.

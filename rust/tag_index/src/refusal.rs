@@ -6,8 +6,8 @@ use std::fmt;
 use crate::LARGEST_GROUP;
 
 /// Why an operation refuses: what is the matter with its input. Document 01 numbers them 1 to 16 and
-/// document 02, §1 and §3, 17 and 18, in this order; more can come, so a `match` needs an arm for the
-/// rest.
+/// document 02, §1, §3 and §7, 17 to 19, in this order; more can come, so a `match` needs an arm for
+/// the rest.
 ///
 /// Over the C boundary 1 and 3 never come: they belong to "place of one tag".
 #[derive(Debug, Clone, Copy, PartialEq, Eq, PartialOrd, Ord, Hash)]
@@ -51,6 +51,8 @@ pub enum Reason {
     UnwiredTag = 17,
     /// 18: no choice sequence fills a group under its seed in the plan.
     SeedDoesNotServe = 18,
+    /// 19: a group's seed or slots are not those that building gives its tags.
+    NotAsBuilt = 19,
 }
 
 /// What a refusal's place counts, from 0. More kinds can come.
@@ -91,9 +93,10 @@ impl Reason {
         Reason::MalformedList,
         Reason::UnwiredTag,
         Reason::SeedDoesNotServe,
+        Reason::NotAsBuilt,
     ];
 
-    /// The papers' number of this reason, 1 to 18.
+    /// The papers' number of this reason, 1 to 19.
     ///
     /// ```
     /// assert_eq!(tag_index::Reason::NoSeed.number(), 7);
@@ -102,12 +105,12 @@ impl Reason {
         self as u32
     }
 
-    /// The reason with this number, if it is 1 to 18.
+    /// The reason with this number, if it is 1 to 19.
     ///
     /// ```
     /// use tag_index::Reason;
-    /// assert_eq!(Reason::from_number(18), Some(Reason::SeedDoesNotServe));
-    /// assert_eq!(Reason::from_number(19), None);
+    /// assert_eq!(Reason::from_number(19), Some(Reason::NotAsBuilt));
+    /// assert_eq!(Reason::from_number(20), None);
     /// ```
     pub fn from_number(number: u32) -> Option<Reason> {
         Reason::ALL
@@ -132,7 +135,8 @@ impl Reason {
             | Reason::NoSeed
             | Reason::GroupTooLarge
             | Reason::FaultyGroup
-            | Reason::SeedDoesNotServe => Some(PlaceKind::Group),
+            | Reason::SeedDoesNotServe
+            | Reason::NotAsBuilt => Some(PlaceKind::Group),
             Reason::WrongSlot | Reason::RepeatedTag => Some(PlaceKind::Slot),
             Reason::UnwiredTag => Some(PlaceKind::IndexOrSlot),
             _ => None,
@@ -214,6 +218,10 @@ impl fmt::Display for Refusal {
                     "no choice sequence fills group {place} under its seed in the plan"
                 )
             }
+            Reason::NotAsBuilt => write!(
+                f,
+                "the seed or the slots of group {place} are not those that building gives its tags"
+            ),
         }
     }
 }

@@ -20,6 +20,7 @@ fn the_whole_case_is_built_checked_and_looked_up() {
     assert_eq!(&buffer[..66], IMAGE);
     assert_eq!(&buffer[66..], b"....");
     assert_eq!(tag_index::check(IMAGE), Ok(()));
+    assert_eq!(tag_index::strict_check(IMAGE), Ok(()));
     let numbers = [0, 1, 2, 3, 4, u32::MAX].map(|tag| tag_index::lookup(IMAGE, tag).unwrap());
     assert_eq!(numbers, [None, Some(1), Some(0), Some(2), None, None]);
 }
@@ -75,6 +76,10 @@ fn empty_slices_are_refused() {
         Err(refusal(Reason::BufferTooShort, 0))
     );
     assert_eq!(tag_index::check(b""), Err(refusal(Reason::WrongLength, 0)));
+    assert_eq!(
+        tag_index::strict_check(b""),
+        Err(refusal(Reason::WrongLength, 0))
+    );
     assert_eq!(
         tag_index::lookup(b"", 0),
         Err(refusal(Reason::WrongLength, 0))

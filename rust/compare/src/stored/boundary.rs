@@ -1,4 +1,4 @@
-//! The cases of `cases_boundary`: the 64-bit answers of the nine functions, for the whole case and for
+//! The cases of `cases_boundary`: the 64-bit answers of the ten functions, for the whole case and for
 //! refusals of each.
 
 use super::Output;
@@ -42,6 +42,7 @@ pub fn write(output: &mut Output) {
     groups(output);
     tagless_builds(output);
     tagless_images(output);
+    strict_images(output);
 }
 
 /// Plans into cells that all hold 9.
@@ -265,5 +266,56 @@ fn tagless_images(output: &mut Output) {
             let answer = model::answer_tagless_lookup(image, tag);
             output.words(format!("  lookup of {tag}: {answer}\n"));
         }
+    }
+}
+
+fn strict_images(output: &mut Output) {
+    // Where checking refuses, 19 is due too, at group 0.
+    let images: [(&str, &[u8]); 11] = [
+        (
+            "strict check of the whole image",
+            b"    3    2\n    0    0\n    1    1\n         2\n         1\n         3\n",
+        ),
+        ("strict check of no bytes", b""),
+        (
+            "strict check, last slot malformed",
+            b"    3    2\n    0    7\n    1    1\n         2\n         1\n        03\n",
+        ),
+        (
+            "strict check, tag 0 in slot 2",
+            b"    3    2\n    0    7\n    1    1\n         2\n         1\n         0\n",
+        ),
+        (
+            "strict check, start past N",
+            b"    3    2\n    0    7\n    4    1\n         2\n         1\n         3\n",
+        ),
+        (
+            "strict check, tag of another group",
+            b"    3    2\n    0    7\n    1    1\n         2\n         1\n         2\n",
+        ),
+        (
+            "strict check, tag twice",
+            b"    3    2\n    0    7\n    1    1\n         2\n         3\n         3\n",
+        ),
+        (
+            "strict check, seed 7 in group 0",
+            b"    3    2\n    0    7\n    1    1\n         2\n         1\n         3\n",
+        ),
+        (
+            "strict check, group 1 under seed 2",
+            b"    3    2\n    0    0\n    1    2\n         2\n         3\n         1\n",
+        ),
+        (
+            "strict check, tags with the same two places exchanged",
+            b"    2    1\n    0    0\n      1193\n       599\n",
+        ),
+        (
+            "strict check, seed 1 in the last of 2 empty groups",
+            b"    0    2\n    0    0\n    0    1\n",
+        ),
+    ];
+    for (name, image) in images {
+        let answer = model::answer_strict_check(image);
+        output.words(format!("{name}: {answer}\n"));
     }
 }

@@ -15,6 +15,7 @@ mod long;
 mod placing;
 mod planning;
 mod printing;
+mod strict;
 mod tagless;
 mod text;
 
@@ -32,6 +33,7 @@ const PROGRAMS: &[Program] = &[
     ("cases_planning", planning::write),
     ("cases_building", building::write),
     ("cases_image", image::write),
+    ("cases_strict", strict::write),
     ("cases_tagless", tagless::built),
     ("cases_tagless_image", tagless::images),
     ("cases_list", list::write),

@@ -68,7 +68,7 @@ impl Choices {
 /// The cycles of a group under a sequence that fills it, each as the bits of its tags. A tag can take its
 /// other place only if the tag that stands there takes its own other place, and so on until a tag comes
 /// again. All sequences that fill n tags on n places differ in whole cycles.
-fn for_each_cycle(tags: &[u32], seed: u32, word: u32, mut found: impl FnMut(u32)) {
+pub fn for_each_cycle(tags: &[u32], seed: u32, word: u32, mut found: impl FnMut(u32)) {
     let n = tags.len();
     let place = |tag: usize, choice: u32| place_of(n as u32, seed, choice & 1, tags[tag]) as usize;
     let mut standing = [0; LARGEST_GROUP];

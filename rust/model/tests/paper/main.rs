@@ -1,6 +1,6 @@
-//! The model held against document 01 and document 02, §1 to §3, §5 and §6: worked values, traps,
+//! The model held against document 01 and document 02, §1 to §3 and §5 to §7: worked values, traps,
 //! refusals, edges, agreement, tag 0, groups of up to 32 tags, planning and writing, the index without
-//! tags, and the fewest second places.
+//! tags, the fewest second places, and the strict check.
 
 mod agreement;
 mod common;
@@ -12,6 +12,7 @@ mod lists;
 mod plans;
 mod printer_and_boundary;
 mod refusals;
+mod strict;
 mod tagless_images;
 mod tagless_words;
 mod thirty_two;

@@ -6,7 +6,8 @@ use crate::common::{
     fills, group_without_seed, places, refusal, tags_of, tags_of_group, two_on_place_0, Key,
 };
 use model::placing::{serves, word_taken};
-use model::{answer_place, check, image_of, lookup, place_group, place_of_one_tag, Found};
+use model::Found;
+use model::{answer_place, check, image_of, lookup, place_group, place_of_one_tag, strict_check};
 use random::Random;
 
 /// The word of the sequence that is taken, by cycles alone. A place that one tag alone reaches gets that
@@ -204,6 +205,7 @@ fn the_sizes_0_1_2_31_and_32_are_placed_built_checked_and_found_and_33_is_refuse
         assert_eq!(cell, [word]);
         let image = image_of(&tags, 2, 65_536).unwrap();
         assert_eq!(check(&image), Ok(()));
+        assert_eq!(strict_check(&image), Ok(()));
         for &tag in &tags {
             let n = size as u32;
             let numbers = [0, 1].map(|choice| place_of_one_tag(n, seed, choice, tag).unwrap());
@@ -278,6 +280,7 @@ fn the_last_seed_is_tried_where_the_limit_is_65536() {
     }
     let image = image_of(&LAST_SEED, 1, 65_536).unwrap();
     assert_eq!(image[..22], *b"   32    1\n    065535\n");
+    assert_eq!(strict_check(&image), Ok(()));
     assert_eq!(image_of(&LAST_SEED, 1, 65_535), Err(refusal(7, 0)));
 }
 
