@@ -2,7 +2,6 @@ pub mod Same
 pub mod SameLaws
 pub mod AsBuilt
 pub mod StrictCheck
-pub mod Condition
 pub mod HeldLaws
 pub mod RebuiltLaws
 pub mod LinesLaws

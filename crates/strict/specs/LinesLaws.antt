@@ -18,7 +18,7 @@ use Rattle.image.specs.Sheet.{imageLength}
 use Rattle.image.specs.View.{View, viewOf, countIn, groupsIn, startIn, seedIn, endIn, slotLineIn, slotIn}
 use Rattle.image.specs.Checking.{checkingOf}
 use Rattle.strict.specs.AsBuilt.{slotsIn}
-use Rattle.strict.specs.Condition.{groupLines}
+use Rattle.strict_condition.specs.Condition.{groupLines}
 use Rattle.strict.specs.HeldLaws.{image-long, header-stated, group-stated, slot-stated, slots-at, slot-below}
 
 -- Bytes are the same whose lines are the same, where both are whole lines and as many.

@@ -42,7 +42,7 @@ use Rattle.strict.specs.Same.{same}
 use Rattle.strict.specs.SameLaws.{equal-of-same, same-self}
 use Rattle.strict.specs.AsBuilt.{seedGiven, slotsGiven, differs, slotsIn, notAsBuilt}
 use Rattle.strict.specs.StrictCheck.{strictChecks, strictCheckOf}
-use Rattle.strict.specs.Condition.{Builds, Ours, Rebuilt, groupLines, LowestApart, StrictCondition}
+use Rattle.strict_condition.specs.Condition.{Builds, Ours, Rebuilt, groupLines, LowestApart, StrictCondition}
 use Rattle.strict.specs.HeldLaws.{many, all-fair, slots-size, slots-at}
 use Rattle.strict.specs.RebuiltLaws.{heldTags, held-length, held-ascending, held-slot, slot-held, held-words, held-members, held-start}
 use Rattle.strict.specs.RebuiltLaws.{alike, held-planned}

@@ -22,7 +22,7 @@ use Rattle.slots.specs.CellsLaws.{cells-count, cells-groups, cells-start, cells
 use Rattle.checking.specs.Steps.{Stated}
 use Rattle.strict.specs.AsBuilt.{differs, slotsIn, notAsBuilt}
 use Rattle.strict.specs.StrictCheck.{strictCheckOf}
-use Rattle.strict.specs.Condition.{StrictCondition}
+use Rattle.strict_condition.specs.Condition.{StrictCondition}
 use Rattle.strict.specs.HeldLaws.{Servable, all-fair, many, servable, slots-size, slots-at, slot-below}
 use Rattle.strict.specs.StrictTheorem.{nineteen-decides, strict-condition}
 use Rattle.image.specs.FaultLaws.{end-most}

@@ -24,7 +24,7 @@ ghost use Rattle.checking.specs.Answer.{checkOutcome};
 ghost use Rattle.strict.specs.Same.{same};
 ghost use Rattle.strict.specs.AsBuilt.{differs};
 ghost use Rattle.strict.specs.StrictCheck.{strictCheckOf};
-ghost use Rattle.strict.specs.Condition.{StrictCondition};
+ghost use Rattle.strict_condition.specs.Condition.{StrictCondition};
 ghost use Rattle.strict.specs.HeldLaws.{Servable};
 ghost use Rattle.strict_checking.specs.Groups.{differsAt, AllServable};
 

@@ -6,7 +6,7 @@ use native.Mathlib.Omega.{arith}
 use Rattle.checking.specs.Answer.{checkOutcome}
 use Rattle.refusal.specs.PlaceLaws.{place-below}
 use Rattle.strict.specs.StrictCheck.{strictCheckOf}
-use Rattle.strict.specs.Condition.{StrictCondition}
+use Rattle.strict_condition.specs.Condition.{StrictCondition}
 use Rattle.tag_index.specs.Answer64.{answer64}
 use Rattle.tag_index.specs.PlaceLaws.{imageLines}
 use Rattle.tag_index.specs.Answer64Laws.{promised64}
