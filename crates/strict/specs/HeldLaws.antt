@@ -9,14 +9,13 @@ use mathlib.Core.Option.{Option, none, some, Option·getD}
 use native.Mathlib.Omega.{arith}
 use lib.ListN.{length, getD}
 use borrow.Author.Tests.{eqb-true, not-false}
-use Rattle.refusal.specs.Limits.{groupMax, groupsMax, seedMax, limitMax, tagEnd, unwired}
+use Rattle.refusal.specs.Limits.{groupMax, seedMax, limitMax, tagEnd, unwired}
 use Rattle.refusal.specs.Outcome.{answered}
 use Rattle.refusal.specs.ChecksLaws.{passed, false-of-met}
 use Rattle.lists.specs.First.{isSome}
 use Rattle.lists.specs.FirstLaws.{some-of-isSome}
 use Rattle.lists.specs.Occurs.{occurs, distinct}
-use Rattle.lists.specs.OccursLaws.{IndexOf, getD-occurs, occurs-getD, getD-distinct, distinct-getD, occurs-not}
-use Rattle.lists.specs.UpTo.{upTo}
+use Rattle.lists.specs.OccursLaws.{IndexOf, getD-occurs, occurs-getD, getD-distinct, distinct-getD}
 use Rattle.lists.specs.UpToLaws.{upTo-length, upTo-at}
 use Rattle.hash.specs.Formula.{placeOf}
 use Rattle.text.specs.Line.{lineLength, lineAt, pairLine, tagLine, imageHeader, groupLine}
@@ -35,7 +34,7 @@ use Rattle.image.specs.Sheet.{imageLength}
 use Rattle.image.specs.Checking.{openingChecks, checkingOf}
 use Rattle.image.specs.Fair.{LiesIn, AllFair}
 use Rattle.image.specs.FaultLaws.{end-most, lies-once}
-use Rattle.image.specs.LinesRead.{ownGroup, ownSlot}
+use Rattle.image.specs.LinesRead.{ownGroup}
 use Rattle.image.specs.CheckedLookupLaws.{Sound, slotIn-reads, fair, slot-lies, slot-own, holds-once, checked-wired, accepted-sound}
 use Rattle.strict.specs.AsBuilt.{slotsIn}
 

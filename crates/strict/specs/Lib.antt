@@ -1,6 +1,7 @@
 pub mod Same
 pub mod SameLaws
 pub mod AsBuilt
+pub mod AsBuiltLaws
 pub mod StrictCheck
 pub mod HeldLaws
 pub mod RebuiltLaws

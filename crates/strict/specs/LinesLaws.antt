@@ -1,10 +1,10 @@
 -- Two checked images that state the same numbers are the same bytes, and two groups that state the same numbers have the same lines.
 -- Assumes nothing.
-use Prim.Native.Nat.{ℕ, zero, suc, _+_, _-_, _*_, _≤_, _<_}
+use Prim.Native.Nat.{ℕ, zero, suc, _+_, _-_, _*_, _<_}
 use mathlib.Core.Path.{_≡_, refl, sym, _∙_, ap}
 use mathlib.Core.Bool.{Bool, true, false}
-use mathlib.Core.List.{List, [], _∷_, _++_}
-use mathlib.Core.Option.{Option, none, some, Option·getD}
+use mathlib.Core.List.{List, [], _∷_}
+use mathlib.Core.Option.{Option, Option·getD}
 use native.Mathlib.Omega.{arith}
 use lib.Dec.{ltb}
 use lib.ListN.{length, getD, take, drop, take-append-drop, length-drop}
@@ -14,7 +14,6 @@ use Rattle.refusal.specs.Outcome.{answered}
 use Rattle.lists.specs.UpTo.{upTo}
 use Rattle.lists.specs.UpToLaws.{upTo-at, upTo-agree}
 use Rattle.text.specs.Line.{lineLength, lineAt, groupLine, slotLine}
-use Rattle.image.specs.Sheet.{imageLength}
 use Rattle.image.specs.View.{View, viewOf, countIn, groupsIn, startIn, seedIn, endIn, slotLineIn, slotIn}
 use Rattle.image.specs.Checking.{checkingOf}
 use Rattle.strict.specs.AsBuilt.{slotsIn}

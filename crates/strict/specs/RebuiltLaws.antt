@@ -2,17 +2,17 @@
 -- answers for it. Assumes nothing.
 use Prim.Native.Nat.{ℕ, zero, suc, _+_, _-_, _≤_, _<_}
 use mathlib.Core.Path.{_≡_, refl, sym, _∙_, ap}
-use mathlib.Core.Bool.{Bool, true, false, not, not-eq-not}
+use mathlib.Core.Bool.{Bool, true, false, not-eq-not}
 use mathlib.Core.List.{List}
 use mathlib.Core.Option.{Option, none, some, Option·getD}
 use native.Mathlib.Omega.{arith}
 use lib.Dec.{eqb}
 use lib.ListN.{length, getD}
 use borrow.Author.Tests.{eqb-true}
-use Rattle.refusal.specs.Limits.{tagEnd, tagsMax, groupsMax, groupMax, seedMax, limitMax, unwired}
+use Rattle.refusal.specs.Limits.{tagEnd, groupsMax, limitMax, unwired}
 use Rattle.refusal.specs.Outcome.{answered}
-use Rattle.lists.specs.First.{first, isSome}
-use Rattle.lists.specs.FirstLaws.{first-out, some-of-isSome, isSome-of-some}
+use Rattle.lists.specs.First.{first}
+use Rattle.lists.specs.FirstLaws.{first-out, isSome-of-some}
 use Rattle.lists.specs.Occurs.{occurs, distinct}
 use Rattle.lists.specs.OccursLaws.{getD-occurs, occurs-getD, getD-distinct}
 use Rattle.lists.specs.UpTo.{upTo}
@@ -23,12 +23,10 @@ use Rattle.text.specs.LineLaws.{image-header-only}
 use Rattle.sorting.specs.Sorted.{sorted}
 use Rattle.sorting.specs.SortedLaws.{sorted-length, sorted-occurs, sorted-ascending, ascending-unique}
 use Rattle.group.specs.Ascending.{Ascending}
-use Rattle.group.specs.Group.{leastSeed}
 use Rattle.group.specs.UnwiredLaws.{absent-wired}
 use Rattle.image.specs.View.{View, viewOf, countIn, groupsIn, startIn, seedIn, endIn, slotIn}
 use Rattle.image.specs.Holds.{SlotHolds}
-use Rattle.image.specs.Fair.{LiesIn}
-use Rattle.image.specs.FaultLaws.{end-next, end-last}
+use Rattle.image.specs.FaultLaws.{end-next}
 use Rattle.image.specs.Checking.{checkingOf}
 use Rattle.image.specs.CheckedLookupLaws.{slotIn-reads, count-most, checked-wired}
 use Rattle.numbering.specs.Members.{members, startOf}

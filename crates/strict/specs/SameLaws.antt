@@ -30,10 +30,13 @@ pub same-differ : (xs ys : List ℕ) (i : ℕ) → (getD xs i 0 ≡ getD ys i 0 
 same-differ xs ys i differ = same-not xs ys (λ e. differ (ap (λ (zs : List ℕ). getD zs i 0) e))
 
 -- and every list is the same as itself, so those that are alike at each index are.
-pub same-self : (xs : List ℕ) → same xs xs ≡ true
+same-self : (xs : List ℕ) → same xs xs ≡ true
 unfolding same
 same-self [] = refl
 same-self (x ∷ xs) = rw (eq-eqb x x refl) (same-self xs)
 
+pub same-equal : (xs ys : List ℕ) → xs ≡ ys → same xs ys ≡ true
+same-equal xs ys e = rw e (same-self ys)
+
 pub same-each : (xs ys : List ℕ) → length xs ≡ length ys → ((i : ℕ) → i < length xs → getD xs i 0 ≡ getD ys i 0) → same xs ys ≡ true
-same-each xs ys long each = rw (ext-getD 0 xs ys long each) (same-self ys)
+same-each xs ys long each = same-equal xs ys (ext-getD 0 xs ys long each)

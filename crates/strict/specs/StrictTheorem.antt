@@ -1,20 +1,16 @@
 -- The strict check as it is defined owes what its condition says, for all bytes. Assumes nothing.
-use Prim.Native.Nat.{ℕ, suc, _+_, _-_, _≤_, _<_}
+use Prim.Native.Nat.{ℕ, _+_, _-_, _≤_, _<_}
 use mathlib.Core.Path.{_≡_, refl, sym, _∙_, ap, subst}
 use mathlib.Core.Logic.{_↔_}
-use mathlib.Core.Bool.{Bool, true, false, cond, not, _||_, not-eq-not, true≢false}
-use mathlib.Core.List.{List, [], _∷_, _++_}
-use mathlib.Core.Option.{none, some}
+use mathlib.Core.Bool.{Bool, true, false, cond, true≢false}
+use mathlib.Core.List.{List, [], _∷_}
 use native.Mathlib.Omega.{arith}
-use lib.Dec.{eqb}
-use lib.ListN.{length, getD, take, drop}
+use lib.ListN.{length, getD, drop}
 use lib.Seq.{take-at}
-use borrow.Author.Tests.{eqb-true, eq-eqb, not-false}
 use Rattle.refusal.specs.Limits.{tagEnd, limitMax}
-use Rattle.refusal.specs.Outcome.{Outcome, answered, refused}
+use Rattle.refusal.specs.Outcome.{answered, refused}
 use Rattle.refusal.specs.Checks.{inOrder}
 use Rattle.refusal.specs.ChecksLaws.{inOrder-append, inOrder-pass, inOrder-answered, inOrder-refused, refused-inOrder, met-alone, pass-split}
-use Rattle.lists.specs.BoolLaws.{neither-of-or}
 use Rattle.lists.specs.First.{first}
 use Rattle.lists.specs.FirstLaws.{first-some, first-none, first-found, first-out}
 use Rattle.lists.specs.Occurs.{occurs}
@@ -23,24 +19,21 @@ use Rattle.sorting.specs.Sorted.{sorted}
 use Rattle.sorting.specs.SortedLaws.{sorted-length, ascending-unique}
 use Rattle.image.specs.View.{View, viewOf, countIn, groupsIn, startIn, seedIn, endIn, slotIn}
 use Rattle.image.specs.Holds.{SlotHolds}
-use Rattle.image.specs.Fair.{LiesIn}
 use Rattle.image.specs.FaultLaws.{groupOfSlot-lies}
 use Rattle.image.specs.Checking.{groupOfSlot, checkingChecks, checkingOf}
 use Rattle.image.specs.CheckedLookupLaws.{checked-lookup}
-use Rattle.image.specs.Lookup.{Found, number, unknown, lookupOf}
-use Rattle.image.specs.Sheet.{imageLength}
-use Rattle.numbering.specs.Members.{members, startOf}
+use Rattle.image.specs.Lookup.{number, unknown, lookupOf}
+use Rattle.numbering.specs.Members.{members}
 use Rattle.numbering.specs.MembersLaws.{start-suc}
 use Rattle.numbering.specs.Number.{numberOf}
 use Rattle.numbering.specs.Planning.{planningOf, seedTaken}
 use Rattle.numbering.specs.PlanningLaws.{planning-says}
-use Rattle.numbering.specs.Building.{buildingOf, bufferAfter, choicesTaken, imageOf}
+use Rattle.numbering.specs.Building.{buildingOf, choicesTaken, imageOf}
 use Rattle.numbering.specs.BuildingLaws.{building-answered, buffer-written, answered-says}
 use Rattle.numbering.specs.WritingLaws.{image-length}
 use Rattle.condition3_theorem.specs.Condition3Theorem.{earlier-of-pass, looked-up, image-written}
-use Rattle.strict.specs.Same.{same}
-use Rattle.strict.specs.SameLaws.{equal-of-same, same-self}
-use Rattle.strict.specs.AsBuilt.{seedGiven, slotsGiven, differs, slotsIn, notAsBuilt}
+use Rattle.strict.specs.AsBuilt.{seedGiven, slotsGiven, slotsIn, notAsBuilt}
+use Rattle.strict.specs.AsBuiltLaws.{as-given, given-of}
 use Rattle.strict.specs.StrictCheck.{strictChecks, strictCheckOf}
 use Rattle.strict_condition.specs.Condition.{Builds, Ours, Rebuilt, groupLines, LowestApart, StrictCondition}
 use Rattle.strict.specs.HeldLaws.{many, all-fair, slots-size, slots-at}
@@ -120,18 +113,16 @@ module _ (tags : List ℕ) (groups limit : ℕ) (words : (t : ℕ) → occurs t 
               absurd (((checked-lookup image checked t) .misses) .0 unfound j h)
 
   pub all-as-built : (g : ℕ) → g < groups → notAsBuilt (viewOf image) g ≡ false
-  unfolding notAsBuilt differs
+  unfolding notAsBuilt
   all-as-built g lt =
       let v = viewOf image in
-      let own = members groups g tags in
       let list = held-only image checked tags (planned-ascending tags groups limit planned) holding in
       let many-groups = written-groups tags groups limit words planned in
-      let its-tags : sorted (slotsIn v g) ≡ own =
+      let its-tags : sorted (slotsIn v g) ≡ members groups g tags =
       sym (held-members image checked g (rw many-groups lt)) ∙ rw (list, many-groups) in
-      let seed : seedIn v g ≡ seedGiven (sorted (slotsIn v g)) = written-seed tags groups limit words planned g lt ∙ ap seedGiven (sym its-tags) in
-      let slots : slotsIn v g ≡ slotsGiven (sorted (slotsIn v g)) =
-      written-slots tags groups limit words planned g lt ∙ ap slotsGiven (sym its-tags) in
-      rw (eq-eqb _ _ seed, ← slots, same-self (slotsIn v g))
+      as-given (seedIn v g) (slotsIn v g)
+      (written-seed tags groups limit words planned g lt ∙ ap seedGiven (sym its-tags))
+      (written-slots tags groups limit words planned g lt ∙ ap slotsGiven (sym its-tags))
 
 -- An image that checking accepts, beside the one that building writes for its tags.
 module _ (image : List ℕ) (accepted : checkingOf image ≡ answered 0) where
@@ -195,13 +186,10 @@ module _ (image : List ℕ) (accepted : checkingOf image ≡ answered 0) where
 
   -- A group is as built exactly where its numbers, and so its lines, are those of that image.
   numbers-as-built : (g : ℕ) → g < groups → notAsBuilt v g ≡ false → (seedIn v g ≡ seedIn w g) × (slotsIn v g ≡ slotsIn w g)
-  unfolding notAsBuilt differs
+  unfolding notAsBuilt
   numbers-as-built g lt e =
-      let its-tags = sorted (slotsIn v g) in
-      let (seeds, slots) = neither-of-or (not (eqb (seedIn v g) (seedGiven its-tags))) (not (same (slotsIn v g) (slotsGiven its-tags))) e in (
-        eqb-true (seedIn v g) (seedGiven its-tags) (not-false _ seeds) ∙ sym (again-seed g lt),
-        equal-of-same (slotsIn v g) (slotsGiven its-tags) (not-false _ slots) ∙ sym (again-slots g lt),
-      )
+      let (seed, slots) = given-of (seedIn v g) (slotsIn v g) e in
+      (seed ∙ sym (again-seed g lt), slots ∙ sym (again-slots g lt))
 
   lines-as-built : (g : ℕ) → g < groups → notAsBuilt v g ≡ false → groupLines image g ≡ groupLines again g
   lines-as-built g lt e =
@@ -209,12 +197,11 @@ module _ (image : List ℕ) (accepted : checkingOf image ≡ answered 0) where
       lines-of-numbers image again accepted again-checked g lt same-groups (same-start g lt) (same-end g lt) seeds slots
 
   as-built-lines : (g : ℕ) → g < groups → groupLines image g ≡ groupLines again g → notAsBuilt v g ≡ false
-  unfolding notAsBuilt differs
+  unfolding notAsBuilt
   as-built-lines g lt e =
-      let (seeds, slots) = numbers-of-lines image again accepted again-checked g lt same-groups (same-start g lt) (same-end g lt) e in
-      let seed = seeds ∙ again-seed g lt in
-      let kept : slotsIn v g ≡ slotsGiven (sorted (slotsIn v g)) = slots ∙ again-slots g lt in
-      rw (eq-eqb _ _ seed, ← kept, same-self (slotsIn v g))
+      let (seed, slots) =
+      numbers-of-lines image again accepted again-checked g lt same-groups (same-start g lt) (same-end g lt) e in
+      as-given (seedIn v g) (slotsIn v g) (seed ∙ again-seed g lt) (slots ∙ again-slots g lt)
 
   -- Where every group is as built, the image is that image.
   slots-as-built : ((g : ℕ) → g < groups → notAsBuilt v g ≡ false) → (j : ℕ) → j < countIn v → slotIn v j ≡ slotIn w j

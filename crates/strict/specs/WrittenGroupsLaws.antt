@@ -1,31 +1,30 @@
 -- The groups of the image that building writes for a list: seed and slots are those that each group's tags are given, whatever the
 -- limit. Assumes nothing.
-use Prim.Native.Nat.{ℕ, suc, _+_, _-_, _≤_, _<_}
-use mathlib.Core.Path.{_≡_, refl, sym, _∙_, ap}
-use mathlib.Core.Bool.{Bool, true, false}
+use Prim.Native.Nat.{ℕ, suc, _+_, _-_, _<_}
+use mathlib.Core.Path.{_≡_, sym, _∙_, ap}
+use mathlib.Core.Bool.{Bool, true}
 use mathlib.Core.List.{List}
 use mathlib.Core.Option.{Option·getD}
 use native.Mathlib.Omega.{arith}
-use lib.ListN.{length, getD}
+use lib.ListN.{length}
 use Rattle.refusal.specs.Limits.{tagEnd, limitMax}
 use Rattle.refusal.specs.Outcome.{answered}
-use Rattle.lists.specs.FirstLaws.{first-more, first-none, some-of-isSome}
+use Rattle.lists.specs.FirstLaws.{first-none}
 use Rattle.lists.specs.Occurs.{occurs}
-use Rattle.lists.specs.UpTo.{upTo}
 use Rattle.lists.specs.UpToLaws.{upTo-agree}
-use Rattle.group.specs.Group.{leastSeed, taken}
-use Rattle.group.specs.GroupLaws.{leastSeed-some, leastSeed-only}
+use Rattle.group.specs.Group.{taken}
+use Rattle.group.specs.GroupLaws.{leastSeed-only}
 use Rattle.image.specs.View.{View, viewOf, countIn, groupsIn, startIn, seedIn, endIn, slotIn}
 use Rattle.image.specs.CheckedLookupLaws.{slotIn-reads}
 use Rattle.image.specs.Checking.{checkingOf}
 use Rattle.numbering.specs.Members.{members, startOf}
 use Rattle.numbering.specs.MembersLaws.{start-all, start-suc, start-before}
-use Rattle.numbering.specs.Number.{numberOf, placeIn, tagNumbered}
+use Rattle.numbering.specs.Number.{placeIn, tagNumbered}
 use Rattle.numbering.specs.GroupSlots.{groupSlots}
 use Rattle.numbering.specs.SlotsLaws.{slot-of-place, slot-is}
 use Rattle.numbering.specs.Planning.{planningOf, seedTaken, seedless}
 use Rattle.numbering.specs.PlanningLaws.{planning-says, seed-least}
-use Rattle.numbering.specs.Writing.{sheetOf, choicesUnder, imageUnder}
+use Rattle.numbering.specs.Writing.{sheetOf, choicesUnder}
 use Rattle.numbering.specs.Building.{choicesTaken, imageOf}
 use Rattle.condition3_theorem.specs.BuiltLaws.{Reads, count-is, groups-is, start-is, seed-is, end-is, slot-is as slot-read}
 use Rattle.condition3_theorem.specs.Condition3Theorem.{Seeded, seeded-taken, seeded-checked, reads, absent, earlier-of-pass}

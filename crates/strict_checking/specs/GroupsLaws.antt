@@ -1,29 +1,25 @@
 -- The groups of a checked image are those that the cells hold, and they decide the strict check. Assumes nothing.
-use Prim.Native.Nat.{ℕ, suc, _+_, _-_, _≤_, _<_}
-use mathlib.Core.Path.{_≡_, refl, sym, _∙_, ap}
-use mathlib.Core.Bool.{Bool, true, false}
+use Prim.Native.Nat.{ℕ, _+_, _-_, _≤_, _<_}
+use mathlib.Core.Path.{_≡_, sym, _∙_}
 use mathlib.Core.List.{List, [], _∷_}
-use mathlib.Core.Option.{Option, none, some}
+use mathlib.Core.Option.{none, some}
 use native.Mathlib.Omega.{arith}
-use lib.ListN.{length, getD, take, drop, length-take, length-drop}
+use lib.ListN.{length, getD, drop, length-take, length-drop}
 use lib.Seq.{ext-getD, getD-take, getD-drop}
-use Rattle.refusal.specs.Limits.{tagsMax}
 use Rattle.refusal.specs.Outcome.{Outcome, answered, refused}
 use Rattle.refusal.specs.Checks.{inOrder}
 use Rattle.lists.specs.First.{first}
 use Rattle.lists.specs.FirstLaws.{first-cong}
-use Rattle.lists.specs.UpTo.{upTo}
-use Rattle.lists.specs.UpToLaws.{upTo-length, upTo-at}
-use Rattle.image.specs.View.{View, viewOf, countIn, groupsIn, startIn, seedIn, endIn, slotIn}
+use Rattle.image.specs.View.{View, viewOf, groupsIn, startIn, seedIn, endIn}
 use Rattle.image.specs.Checking.{checkingOf}
-use Rattle.image.specs.SameNumbersLaws.{SameNumbers, same-end}
+use Rattle.image.specs.SameNumbersLaws.{same-end}
 use Rattle.slots.specs.Cells.{cellsView}
 use Rattle.slots.specs.CellsLaws.{cells-count, cells-groups, cells-start, cells-seed, cells-slot, cells-end}
 use Rattle.checking.specs.Steps.{Stated}
-use Rattle.strict.specs.AsBuilt.{differs, slotsIn, notAsBuilt}
+use Rattle.strict.specs.AsBuilt.{slotsIn, notAsBuilt}
 use Rattle.strict.specs.StrictCheck.{strictCheckOf}
 use Rattle.strict_condition.specs.Condition.{StrictCondition}
-use Rattle.strict.specs.HeldLaws.{Servable, all-fair, many, servable, slots-size, slots-at, slot-below}
+use Rattle.strict.specs.HeldLaws.{all-fair, servable, slots-size, slots-at, slot-below}
 use Rattle.strict.specs.StrictTheorem.{nineteen-decides, strict-condition}
 use Rattle.image.specs.FaultLaws.{end-most}
 use Rattle.strict_checking.specs.Groups.{slotsAt, differsAt, AllServable}

@@ -14,7 +14,7 @@ use Rattle.image.specs.View.{viewOf, groupsIn, startIn, endIn, slotLineIn}
 use Rattle.image.specs.Holds.{SlotHolds}
 use Rattle.image.specs.Checking.{checkingOf}
 use Rattle.numbering.specs.Building.{buildingOf, bufferAfter}
-use Rattle.strict_condition.specs.Condition.{Builds, Ours, Rebuilt, LowestApart, StrictCondition}
+use Rattle.strict_condition.specs.Condition.{Builds, Rebuilt, StrictCondition}
 
 -- "building, in every buffer long enough, is accepted and writes these bytes, no more and no fewer", of a list of 32-bit tags.
 abbrev pub Writes : List ℕ → ℕ → ℕ → List ℕ → Type 0

@@ -1,12 +1,12 @@
--- `strict_checking::differs` meets its contract: no tags are given seed 0, and others are sorted and placed. Assumes nothing.
+-- `strict_group::differs` meets its contract: no tags are given seed 0, and others are sorted and placed. Assumes nothing.
 use borrow.Author.Needs.{needs}
 use mathlib.Core.Path.{_≡_, sym, _∙_, ap}
 use lib.ListN.{length, take}
 use Rattle.sorting.specs.Sorted.{sorted}
 use Rattle.sorting.specs.SortedLaws.{sorted-length}
-use Rattle.strict_checking.specs.PlacedLaws.{no-tags-differ, sorted-front, sorted-inside}
-use Rattle.strict_checking.proofs.differs.Statement.{statement}
-use Rattle.strict_checking.proofs.differs.Tie as tie
+use Rattle.strict_group.specs.PlacedLaws.{no-tags-differ, sorted-front, sorted-inside}
+use Rattle.strict_group.proofs.differs.Statement.{statement}
+use Rattle.strict_group.proofs.differs.Tie as tie
 
 returns : tie.Need-returns
 returns c =

@@ -1,4 +1,4 @@
--- `strict_checking::same` meets its contract: the lists are alike before index i, and the first index at which they differ ends the
+-- `strict_group::same` meets its contract: the lists are alike before index i, and the first index at which they differ ends the
 -- loop. Assumes nothing.
 use borrow.Author.Needs.{needs}
 use mathlib.Core.Path.{_≡_, sym}
@@ -9,8 +9,8 @@ use native.Mathlib.Omega.{arith}
 use native.Mathlib.Nat.{eq-or-lt-of-le}
 use lib.ListN.{length, getD}
 use Rattle.strict.specs.SameLaws.{same-longer, same-differ, same-each}
-use Rattle.strict_checking.proofs.same.Statement.{statement}
-use Rattle.strict_checking.proofs.same.Tie as tie
+use Rattle.strict_group.proofs.same.Statement.{statement}
+use Rattle.strict_group.proofs.same.Tie as tie
 
 -- The loop has come to index i.
 record Alike (xs ys : List ℕ) (i : ℕ) : Type 0 where

@@ -1,4 +1,4 @@
--- `strict_checking::placed_otherwise` meets its contract: the tags are placed, since the stated seed serves them, and what they are given
+-- `strict_group::placed_otherwise` meets its contract: the tags are placed, since the stated seed serves them, and what they are given
 -- is compared. Assumes nothing.
 use borrow.Author.Needs.{needs}
 use Prim.Native.Nat.{_≤_}
@@ -10,9 +10,9 @@ use Rattle.refusal.specs.Outcome.{answered}
 use Rattle.sorting.specs.Sorted.{sorted}
 use Rattle.group.specs.Placing.{placingOf}
 use Rattle.placing.specs.Answer.{placingOutcome}
-use Rattle.strict_checking.specs.PlacedLaws.{placing-never, placed-is, placed-arrangeable, tags-few, seed-differs, slots-decide}
-use Rattle.strict_checking.proofs.placed_otherwise.Statement.{statement}
-use Rattle.strict_checking.proofs.placed_otherwise.Tie as tie
+use Rattle.strict_group.specs.PlacedLaws.{placing-never, placed-is, placed-arrangeable, tags-few, seed-differs, slots-decide}
+use Rattle.strict_group.proofs.placed_otherwise.Statement.{statement}
+use Rattle.strict_group.proofs.placed_otherwise.Tie as tie
 
 -- Where placing was asked, and what it is asked for: the tags are those of the slots, lowest first.
 abbrev entry : tie.After-place-group → tie.Start

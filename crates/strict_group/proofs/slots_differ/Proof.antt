@@ -1,4 +1,4 @@
--- `strict_checking::slots_differ` meets its contract: the cells have the group's slots when they are compared. Assumes nothing.
+-- `strict_group::slots_differ` meets its contract: the cells have the group's slots when they are compared. Assumes nothing.
 use borrow.Author.Needs.{needs}
 use mathlib.Core.Path.{sym, _∙_, ap}
 use mathlib.Core.Bool.{not}
@@ -6,8 +6,8 @@ use lib.ListN.{length}
 use Rattle.group.specs.Group.{taken}
 use Rattle.numbering.specs.SlotsLaws.{slots-length}
 use Rattle.strict.specs.Same.{same}
-use Rattle.strict_checking.proofs.slots_differ.Statement.{statement}
-use Rattle.strict_checking.proofs.slots_differ.Tie as tie
+use Rattle.strict_group.proofs.slots_differ.Statement.{statement}
+use Rattle.strict_group.proofs.slots_differ.Tie as tie
 
 -- There is a cell for each slot, before and after.
 same-length : tie.Need-same-length

@@ -1,8 +1,8 @@
 -- Tags that some seed serves are placed by the search through all seeds, and the slots they are given decide whether the group differs.
 -- Assumes nothing.
-use Prim.Native.Nat.{ℕ, _≤_, _<_}
+use Prim.Native.Nat.{ℕ, _≤_}
 use mathlib.Core.Path.{_≡_, refl, sym, _∙_, ap}
-use mathlib.Core.Bool.{Bool, true, false, not, _||_, or-false}
+use mathlib.Core.Bool.{true, not, or-false}
 use mathlib.Core.List.{List, [], _∷_, _++_}
 use mathlib.Core.Option.{Option·getD}
 use native.Mathlib.Omega.{arith}
@@ -10,18 +10,17 @@ use lib.Dec.{eqb}
 use lib.ListN.{length, take, length-append}
 use lib.Seq.{take-at}
 use borrow.Author.Tests.{le-ltb, eq-eqb, ne-eqb}
-use Rattle.refusal.specs.Limits.{groupMax, seedMax, limitMax, unwired}
+use Rattle.refusal.specs.Limits.{groupMax, limitMax, unwired}
 use Rattle.refusal.specs.LimitsLaws.{outside-not}
 use Rattle.refusal.specs.Outcome.{Outcome, answered, refused, onAnswer}
 use Rattle.refusal.specs.ChecksLaws.{_then_, met-false, inOrder-pass}
 use Rattle.lists.specs.FirstLaws.{isSome-of-some}
-use Rattle.lists.specs.Occurs.{occurs, distinct}
 use Rattle.filling.specs.LeastLaws.{fills-feasible}
 use Rattle.filling.specs.Word.{wordOf}
 use Rattle.sorting.specs.Sorted.{sorted}
 use Rattle.sorting.specs.SortedLaws.{sorted-length, sorted-occurs, sorted-ascending}
 use Rattle.group.specs.AscendingLaws.{check-of-ascending, ascending-distinct}
-use Rattle.group.specs.Group.{groupUnder, leastSeed, taken}
+use Rattle.group.specs.Group.{groupUnder, taken}
 use Rattle.group.specs.GroupLaws.{LeastSeed, leastSeed-some, leastSeed-empty}
 use Rattle.group.specs.UnwiredLaws.{absent-wired, check-of-wired}
 use Rattle.group.specs.Placing.{Placement, placingChecks, placementOf, placingOf}
@@ -29,7 +28,6 @@ use Rattle.lists.specs.UpTo.{upTo}
 use Rattle.numbering.specs.GroupSlots.{groupSlots}
 use Rattle.arrange.specs.Arrange.{Arrangeable}
 use Rattle.strict.specs.Same.{same}
-use Rattle.strict.specs.SameLaws.{same-self}
 use Rattle.strict.specs.AsBuilt.{seedGiven, slotsGiven, differs}
 use Rattle.strict.specs.HeldLaws.{Servable, seed-found}
 
