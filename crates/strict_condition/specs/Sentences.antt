@@ -14,7 +14,7 @@ use Rattle.image.specs.View.{viewOf, groupsIn, startIn, endIn, slotLineIn}
 use Rattle.image.specs.Holds.{SlotHolds}
 use Rattle.image.specs.Checking.{checkingOf}
 use Rattle.numbering.specs.Building.{buildingOf, bufferAfter}
-use Rattle.strict_condition.specs.Condition.{Builds, Rebuilt, StrictCondition}
+use Rattle.strict_condition.specs.Condition.{Builds, Ours, Rebuilt, StrictCondition}
 
 -- "building, in every buffer long enough, is accepted and writes these bytes, no more and no fewer", of a list of 32-bit tags.
 abbrev pub Writes : List ℕ → ℕ → ℕ → List ℕ → Type 0
@@ -26,6 +26,16 @@ Writes tags groups limit image =
 
 written : {tags image : List ℕ} {groups limit : ℕ} → Builds tags groups limit image → Writes tags groups limit image
 written b = (b .words, λ before fits. (b .accepted before fits, b .writes before fits))
+
+builds-of : {tags image : List ℕ} {groups limit : ℕ} → Writes tags groups limit image → Builds tags groups limit image
+builds-of (words, writes) = record {
+  words = words;
+  accepted = λ before fits. writes before fits .0;
+  writes = λ before fits. writes before fits .1;
+}
+
+ours-of : (tags : List ℕ) (groups limit : ℕ) {image : List ℕ} → Writes tags groups limit image → Ours image
+ours-of tags groups limit writes = record { tags = tags; groups = groups; limit = limit; builds = builds-of writes }
 
 -- The line of group g and those of its slots, by an image's own starts.
 abbrev pub linesOf : List ℕ → ℕ → List (List ℕ)
@@ -41,18 +51,7 @@ module _ {image : List ℕ} {answer : Outcome ℕ} (c : StrictCondition image an
 
   -- and if there are, whatever the L, it accepts.
   pub written-accepted : (tags : List ℕ) (groups limit : ℕ) → Writes tags groups limit image → answer ≡ answered 0
-  written-accepted tags groups limit (words, writes) =
-      c .ours .1
-      (record {
-        tags = tags;
-        groups = groups;
-        limit = limit;
-        builds = record {
-          words = words;
-          accepted = λ before fits. writes before fits .0;
-          writes = λ before fits. writes before fits .1;
-        };
-      })
+  written-accepted tags groups limit writes = c .ours .1 (ours-of tags groups limit writes)
 
   -- "all refusals of checking first"
   pub refusals-first : (number place : ℕ) → checkingOf image ≡ refused number place → answer ≡ refused number place
@@ -69,16 +68,7 @@ module _ {image : List ℕ} {answer : Outcome ℕ} (c : StrictCondition image an
     module _ (tags bytes : List ℕ) (held : (t : ℕ) → (occurs t tags ≡ true) ↔ ((j : ℕ) × SlotHolds image j t))
         (builds : Writes tags (groupsIn (viewOf image)) 65536 bytes) where
       again : Rebuilt image
-      again = record {
-        tags = tags;
-        held = held;
-        bytes = bytes;
-        builds = record {
-          words = builds .0;
-          accepted = λ before fits. builds .1 before fits .0;
-          writes = λ before fits. builds .1 before fits .1;
-        };
-      }
+      again = record { tags = tags; held = held; bytes = bytes; builds = builds-of builds }
 
       pub named-lowest : (g : ℕ) → answer ≡ refused 19 g
           → (g < groupsIn (viewOf image)) × (linesOf image g ≡ linesOf bytes g → ⊥) × ((h : ℕ) → h < g → linesOf image h ≡ linesOf bytes h)
