@@ -93,7 +93,6 @@ module _ (image : List ℕ) {groups : ℕ} {starts seeds tags : List ℕ} (accep
   unfolding inOrder
   decided-nowhere found = sym (cells-decide ∙ rw found)
 
--- The answer brings the condition with it.
-pub promised : (image : List ℕ) {outcome : Outcome ℕ} → outcome ≡ strictCheckOf image
-    → (outcome ≡ strictCheckOf image) × StrictCondition image outcome
-promised image answer = (answer, rw answer (strict-condition image))
+-- What is owed of the definition is owed of an answer that equals it.
+pub owed : (image : List ℕ) {outcome : Outcome ℕ} → outcome ≡ strictCheckOf image → StrictCondition image outcome
+owed image answer = rw answer (strict-condition image)

@@ -1,4 +1,6 @@
 // The operation "strict check": whether an image is one that building writes for some list, for any bytes.
+mod worked;
+
 use checking::CheckAnswer;
 use opening::Opened;
 use refusal::First;
@@ -28,15 +30,14 @@ pub fn strict_check(image: &[u8]) -> CheckAnswer
 }
 
 // The strict check of an image that opens: checking reads its numbers into cells, and the groups are compared there.
-fn strict_opened(image: &[u8], count: u32, groups: u32) -> CheckAnswer
-    requires { ⌜ openingOf (now image) ≡ answered (count, groups) ⌝ }
-    ensures answer { λ r. ⌜ checkOutcome r ≡ strictCheckOf (now (image .entry)) ⌝ }
-    ensures condition { λ r. ⌜ StrictCondition (now (image .entry)) (checkOutcome r) ⌝ }
+fn strict_opened(opened: &[u8], count: u32, groups: u32) -> CheckAnswer
+    requires { ⌜ openingOf (now opened) ≡ answered (count, groups) ⌝ }
+    ensures answer { λ r. ⌜ checkOutcome r ≡ strictCheckOf (now (opened .entry)) ⌝ }
 {
     let mut starts = [0u32; START_CELLS];
     let mut seeds = [0u32; GROUP_CELLS];
     let mut tags = [0u32; TAG_CELLS];
-    match checking::check_opened(image, count, groups, &mut starts, &mut seeds, &mut tags) {
+    match checking::check_opened(opened, count, groups, &mut starts, &mut seeds, &mut tags) {
         CheckAnswer::Accepted => match first_not_as_built(&starts, &seeds, &tags, groups) {
             First::At(g) => checking::refused(Reason::NotAsBuilt, g),
             First::Nowhere => CheckAnswer::Accepted,

@@ -2,7 +2,7 @@
 -- Assumes nothing.
 use borrow.Author.Needs.{needs}
 use mathlib.Core.Path.{refl, sym, _∙_}
-use Prim.Native.Nat.{_+_, _-_, _≤_}
+use Prim.Native.Nat.{_+_, _-_, _≤_, _<_}
 use native.Mathlib.Omega.{arith}
 use lib.ListN.{length, getD}
 use Rattle.lists.specs.First.{first}
@@ -21,14 +21,18 @@ abbrev μ-loop : tie.MeasureT-loop
 abbrev entry : tie.In-loop Inv-loop μ-loop → tie.Start Inv-loop μ-loop
 entry turn = turn .before .before .before
 
--- The slots of group g begin no later than they end, and end within the tags.
+-- There is a group g, and
+below : (turn : tie.In-loop Inv-loop μ-loop) → turn .before .loop .g < entry turn .args .groups
+below turn = omega (arith, turn .loop-test .taken)
+
+-- its slots begin no later than they end, and end within the tags.
 within : (turn : tie.In-loop Inv-loop μ-loop)
     → (let starts = entry turn .args .starts .now in let g = turn .before .loop .g in
     (getD starts g 0 ≤ getD starts (g + 1) 0) × (getD starts (g + 1) 0 ≤ length (entry turn .args .tags .now)))
 within turn =
     let pre = entry turn .pre in
     let g = turn .before .loop .g in
-    (pre .ascends g (turn .loop-test .taken), pre .inside g (turn .loop-test .taken))
+    (pre .ascends g (below turn), pre .inside g (below turn))
 
 loop-holds : tie.Need-loop-holds Inv-loop μ-loop
 unfolding first
@@ -57,21 +61,21 @@ part-differs-end c = within (c .before .before) .1
 differs-requires : tie.Need-differs-requires Inv-loop μ-loop
 differs-requires c κs =
     let turn = c .before .before .before .before in
-    entry turn .pre .servable (turn .before .loop .g) (turn .loop-test .taken)
+    entry turn .pre .servable (turn .before .loop .g) (below turn)
 
 returns : tie.Need-returns Inv-loop μ-loop
 returns c =
     let turn = c .before .before .before .before .before .before in
     let a = entry turn .args in
     sym (searched-found (differsAt (a .starts .now) (a .seeds .now) (a .tags .now)) 0 (a .groups) (turn .before .loop .g)
-    (turn .before .loop .inv) (turn .loop-test .taken) (sym (c .before .differs .ensures) ∙ c .if1 .taken))
+    (turn .before .loop .inv) (below turn) (sym (c .before .differs .ensures) ∙ c .if1 .taken))
 
 loop-again : tie.Need-loop-again Inv-loop μ-loop
 loop-again c =
     let turn = c .before .before .before .before .before .before in
     let a = entry turn .args in
     searched-turn (differsAt (a .starts .now) (a .seeds .now) (a .tags .now)) 0 (a .groups) (turn .before .loop .g)
-    (turn .before .loop .inv) (turn .loop-test .taken) (sym (c .before .differs .ensures) ∙ c .if1 .left)
+    (turn .before .loop .inv) (below turn) (sym (c .before .differs .ensures) ∙ c .if1 .left)
 
 returns-2 : tie.Need-returns-2 Inv-loop μ-loop
 returns-2 c =

@@ -4,8 +4,8 @@ use borrow.Author.Needs.{needs}
 use mathlib.Core.Path.{sym, _∙_, ap}
 use Rattle.opening.specs.Answer.{openedOutcome}
 use Rattle.checking.specs.StepsLaws.{check-unopened}
-use Rattle.strict.specs.StrictTheorem.{refused-first}
-use Rattle.strict_checking.specs.GroupsLaws.{promised}
+use Rattle.strict.specs.StrictTheorem.{refused-first, strict-condition}
+use Rattle.strict_checking.specs.GroupsLaws.{owed}
 use Rattle.strict_checking.proofs.strict_check.Statement.{statement}
 use Rattle.strict_checking.proofs.strict_check.Tie as tie
 
@@ -14,13 +14,21 @@ strict-opened-requires c κs =
     let told = c .before in
     sym (told .before .before .open .ensures) ∙ ap openedOutcome (told .count .given .1)
 
+-- The answer is the definition's, and what is owed of the definition is owed of it.
+returns : tie.Need-returns
+returns c =
+    let image = c .before .before .before .before .before .before .args .image .now in
+    let answer = c .strict-opened .ensures in
+    search (needs, answer, strict-condition image, owed image answer)
+
 returns-2 : tie.Need-returns-2
 returns-2 c =
     let told = c .before in
     let opened = told .before .before in
     let image = opened .before .before .args .image .now in
     let refused = sym (opened .open .ensures) ∙ ap openedOutcome (told .refusal .given .1) in
-    promised image (sym (refused-first image _ _ (check-unopened image refused)))
+    let answer = sym (refused-first image _ _ (check-unopened image refused)) in
+    search (needs, answer, strict-condition image, owed image answer)
 
 pub strict-check-spec : {M : Type 1} → statement M
 strict-check-spec =
@@ -30,5 +38,5 @@ strict-check-spec =
     (λ c. search needs)  -- enum-known-count
     strict-opened-requires
     (λ c. search needs)  -- enum-known-refusal
-    (λ c. search needs)  -- returns
+    returns
     returns-2)

@@ -9,7 +9,7 @@ use Rattle.refusal.specs.Answer.{firstMeaning}
 use Rattle.image.specs.Checking.{checkingOf}
 use Rattle.checking.specs.Answer.{checkOutcome}
 use Rattle.strict.specs.StrictTheorem.{refused-first}
-use Rattle.strict_checking.specs.GroupsLaws.{all-servable, decided-at, decided-nowhere, promised}
+use Rattle.strict_checking.specs.GroupsLaws.{all-servable, decided-at, decided-nowhere}
 use Rattle.strict_checking.proofs.strict_opened.Statement.{statement}
 use Rattle.strict_checking.proofs.strict_opened.Tie as tie
 
@@ -18,7 +18,7 @@ check-opened-requires c κs = (c .before .before .before .before .pre, (refl, re
 
 -- Where checking accepted; the cells then hold the numbers that the image states.
 abbrev image : tie.After-enum-told → List ℕ
-image told = told .before .before .before .before .before .before .before .args .image .now
+image told = told .before .before .before .before .before .before .before .args .opened .now
 
 accepted : (told : tie.After-enum-told) → checkingOf (image told) ≡ answered 0
 accepted told = sym (told .before .before .check-opened .ensures .0) ∙ ap checkOutcome (told .enum-told .given .1)
@@ -42,7 +42,7 @@ returns c =
     let told = compared .before .before .before .before in
     let stated = told .before .before .check-opened .ensures .1 (ap checkOutcome (told .enum-told .given .1)) in
     let found = sym (compared .first-not-as-built .ensures) ∙ ap firstMeaning (named .g .given .1) in
-    promised (image told) (c .refused .ensures ∙ decided-at (image told) (accepted told) stated found)
+    c .refused .ensures ∙ decided-at (image told) (accepted told) stated found
 
 returns-2 : tie.Need-returns-2
 returns-2 c =
@@ -50,14 +50,14 @@ returns-2 c =
     let told = compared .before .before .before .before in
     let stated = told .before .before .check-opened .ensures .1 (ap checkOutcome (told .enum-told .given .1)) in
     let found = sym (compared .first-not-as-built .ensures) ∙ ap firstMeaning (c .enum-told2 .given .1) in
-    promised (image told) (decided-nowhere (image told) (accepted told) stated found)
+    decided-nowhere (image told) (accepted told) stated found
 
 returns-3 : tie.Need-returns-3
 returns-3 c =
     let checked = c .before .before .before in
-    let image = checked .before .before .before .before .before .args .image .now in
+    let image = checked .before .before .before .before .before .args .opened .now in
     let refused = sym (checked .check-opened .ensures .0) ∙ ap checkOutcome (c .before .refusal .given .1) in
-    promised image (sym (refused-first image _ _ refused))
+    sym (refused-first image _ _ refused)
 
 pub strict-opened-spec : {M : Type 1} → statement M
 strict-opened-spec =
