@@ -4,7 +4,7 @@ use borrow.Author.Needs.{needs}
 use mathlib.Core.Path.{sym, _∙_, ap}
 use Rattle.opening.specs.Answer.{openedOutcome}
 use Rattle.checking.specs.StepsLaws.{check-unopened}
-use Rattle.strict.specs.StrictTheorem.{refused-first, strict-condition}
+use Rattle.strict.specs.StrictTheorem.{refused-first}
 use Rattle.strict_checking.specs.GroupsLaws.{owed}
 use Rattle.strict_checking.proofs.strict_check.Statement.{statement}
 use Rattle.strict_checking.proofs.strict_check.Tie as tie
@@ -19,7 +19,7 @@ returns : tie.Need-returns
 returns c =
     let image = c .before .before .before .before .before .before .args .image .now in
     let answer = c .strict-opened .ensures in
-    search (needs, answer, strict-condition image, owed image answer)
+    search (needs, answer, owed image answer)
 
 returns-2 : tie.Need-returns-2
 returns-2 c =
@@ -28,7 +28,7 @@ returns-2 c =
     let image = opened .before .before .args .image .now in
     let refused = sym (opened .open .ensures) ∙ ap openedOutcome (told .refusal .given .1) in
     let answer = sym (refused-first image _ _ (check-unopened image refused)) in
-    search (needs, answer, strict-condition image, owed image answer)
+    search (needs, answer, owed image answer)
 
 pub strict-check-spec : {M : Type 1} → statement M
 strict-check-spec =

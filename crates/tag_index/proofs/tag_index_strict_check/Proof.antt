@@ -28,8 +28,10 @@ unfolding strictCheckAnswer answer64
 returns c =
     let checked = c .before .before in
     let image = checked .before .before .args .image .now in
-    promised64 (strictCheckOf image) (strict-fits image) (StrictCondition image) (checked .strict-check .ensures .0)
-    (sym (ap (λ o. answer64 (checkOutcome o)) (c .enum-told .given .1))) (checked .strict-check .ensures .1)
+    let (answer, condition) = promised64 (strictCheckOf image) (strict-fits image) (StrictCondition image)
+    (checked .strict-check .ensures .0) (sym (ap (λ o. answer64 (checkOutcome o)) (c .enum-told .given .1)))
+    (checked .strict-check .ensures .1) in
+    search (needs, answer, condition)
 
 returns-2 : tie.Need-returns-2
 unfolding strictCheckAnswer
@@ -37,8 +39,11 @@ returns-2 c =
     let told = c .before .before in
     let checked = told .before .before in
     let image = checked .before .before .args .image .now in
-    promised64 (strictCheckOf image) (strict-fits image) (StrictCondition image) (checked .strict-check .ensures .0)
-    (c .refusal-answer .ensures ∙ sym (ap (λ o. answer64 (checkOutcome o)) (told .refusal .given .1))) (checked .strict-check .ensures .1)
+    let (answer, condition) = promised64 (strictCheckOf image) (strict-fits image) (StrictCondition image)
+    (checked .strict-check .ensures .0)
+    (c .refusal-answer .ensures ∙ sym (ap (λ o. answer64 (checkOutcome o)) (told .refusal .given .1)))
+    (checked .strict-check .ensures .1) in
+    search (needs, answer, condition)
 
 pub tag-index-strict-check-spec : {M : Type 1} → statement M
 tag-index-strict-check-spec =
