@@ -46,15 +46,15 @@ fn line(bytes: &[u8]) {
     report::words(b"line ");
     report::words(bytes);
     report::words(b"  image header: ");
-    pair(text::read_image_header(bytes, 0));
+    pair(lines::read_image_header(bytes, 0));
     report::words(b"  group line: ");
-    pair(text::read_group_line(bytes, 0));
+    pair(lines::read_group_line(bytes, 0));
     report::words(b"  slot line: ");
-    tag(text::read_slot_line(bytes, 0));
+    tag(lines::read_slot_line(bytes, 0));
     report::words(b"  list header: ");
-    pair(text::read_list_header(bytes, 0));
+    pair(lines::read_list_header(bytes, 0));
     report::words(b"  list line: ");
-    tag(text::read_list_line(bytes, 0));
+    tag(lines::read_list_line(bytes, 0));
 }
 
 // Zero, the widest figures, and what is no figure: needless zeros, spaces behind or between, other bytes, blanks, cut fields.
@@ -98,19 +98,19 @@ fn lines() {
 // Lines written into a buffer that is full of dots: what is written, and the dots before and after it.
 fn written() {
     let mut buffer = [b'.'; 36];
-    text::write_pair_line(&mut buffer, 1, 4096, 512);
-    text::write_tag_line(&mut buffer, 12, 4294967295);
-    text::write_tag_line(&mut buffer, 23, 0);
+    lines::write_pair_line(&mut buffer, 1, 4096, 512);
+    lines::write_tag_line(&mut buffer, 12, 4294967295);
+    lines::write_tag_line(&mut buffer, 23, 0);
     report::words(&buffer);
     report::words(b"\n");
-    text::write_field(&mut buffer, 0, 5, 0);
-    text::write_field(&mut buffer, 34, 2, 7);
+    lines::write_field(&mut buffer, 0, 5, 0);
+    lines::write_field(&mut buffer, 34, 2, 7);
     report::words(&buffer);
     report::words(b"\n");
     // The longest tag of eight digits and the first of nine, and one with every digit.
-    text::write_tag_line(&mut buffer, 0, 99999999);
-    text::write_tag_line(&mut buffer, 11, 100000000);
-    text::write_tag_line(&mut buffer, 22, 1234567890);
+    lines::write_tag_line(&mut buffer, 0, 99999999);
+    lines::write_tag_line(&mut buffer, 11, 100000000);
+    lines::write_tag_line(&mut buffer, 22, 1234567890);
     report::words(&buffer);
     report::words(b"\n");
 }
@@ -122,11 +122,11 @@ fn wide(n: u32) {
     report::number(digits::width_of(n) as u64);
     report::words(b": \"");
     let mut field = [b'.'; 5];
-    text::write_field(&mut field, 0, 5, n);
+    lines::write_field(&mut field, 0, 5, n);
     report::words(&field);
     report::words(b"\", line ");
     let mut line = [b'.'; 11];
-    text::write_tag_line(&mut line, 0, n);
+    lines::write_tag_line(&mut line, 0, n);
     report::words(&line);
 }
 

@@ -98,7 +98,7 @@ fn read_group_lines(
     starts[groups as usize] = count;
     let mut g = 0;
     while g < groups as usize {
-        let Pair::Numbers(start, seed) = text::read_group_line(image, LINE_LENGTH * (1 + g)) else {
+        let Pair::Numbers(start, seed) = lines::read_group_line(image, LINE_LENGTH * (1 + g)) else {
             return First::At(1 + g);
         };
         starts[g] = start;
@@ -118,7 +118,7 @@ fn read_slot_lines(image: &[u8], count: u32, groups: u32, tags: &mut [u32; TAG_C
         (now (tags .exit)) ⌝ }
 {
     let from = 1 + groups as usize;
-    text::read_tag_lines(image, from, from + count as usize, tags)
+    lines::read_tag_lines(image, from, from + count as usize, tags)
 }
 
 // The checks behind those of the lines, over the numbers that the lines state: 17, 13, 14 and 15.

@@ -29,13 +29,13 @@ pub fn read_list(text: &[u8], cells: &mut [u32]) -> ListAnswer
     if text.len() % text::LINE_LENGTH != 0 {
         return malformed(0);
     }
-    let Pair::Numbers(groups, limit) = text::read_list_header(text, 0) else {
+    let Pair::Numbers(groups, limit) = lines::read_list_header(text, 0) else {
         return malformed(0);
     };
     let lines = text.len() / text::LINE_LENGTH;
     let mut tags = [0u32; refusal::TAG_CELLS];
     // Every line is examined, also those that there is no cell for: 16 comes before 5.
-    if let First::At(k) = text::read_tag_lines(text, 1, lines, &mut tags) {
+    if let First::At(k) = lines::read_tag_lines(text, 1, lines, &mut tags) {
         return malformed(k);
     }
     let count = lines - 1;

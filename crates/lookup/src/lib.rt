@@ -74,7 +74,7 @@ fn in_group(image: &[u8], count: u32, groups: u32, tag: u32) -> LookupAnswer
 {
     let g = hash::group_of(groups, tag);
     let line = 1 + g as usize;
-    let Pair::Numbers(start, seed) = text::read_group_line(image, LINE_LENGTH * line) else {
+    let Pair::Numbers(start, seed) = lines::read_group_line(image, LINE_LENGTH * line) else {
         return malformed(line);
     };
     let GroupEnd::At(end) = group_end(image, count, groups, g) else {
@@ -99,7 +99,7 @@ fn group_end(image: &[u8], count: u32, groups: u32, g: u32) -> GroupEnd
     if next == groups {
         return GroupEnd::At(count);
     }
-    let Pair::Numbers(start, _) = text::read_group_line(image, LINE_LENGTH * (1 + next as usize))
+    let Pair::Numbers(start, _) = lines::read_group_line(image, LINE_LENGTH * (1 + next as usize))
     else {
         return GroupEnd::Malformed;
     };
@@ -119,7 +119,7 @@ fn in_slots(image: &[u8], groups: u32, start: u32, end: u32, seed: u32, tag: u32
     for choice in 0..2 {
         let slot = start + hash::place_of(n, seed, choice, tag);
         let line = 1 + groups as usize + slot as usize;
-        let Tag::Number(held) = text::read_slot_line(image, LINE_LENGTH * line) else {
+        let Tag::Number(held) = lines::read_slot_line(image, LINE_LENGTH * line) else {
             return malformed(line);
         };
         if held == tag {

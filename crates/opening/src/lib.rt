@@ -19,7 +19,7 @@ pub fn open(image: &[u8]) -> Opened
     ensures answer { λ r. ⌜ openedOutcome r ≡ openingOf (now (image .entry)) ⌝ }
 {
     if LINE_LENGTH <= image.len() {
-        let Pair::Numbers(count, groups) = text::read_image_header(image, 0) else {
+        let Pair::Numbers(count, groups) = lines::read_image_header(image, 0) else {
             return Opened::Refused(Refusal {
                 reason: Reason::MalformedLine,
                 place: 0,

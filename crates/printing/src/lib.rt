@@ -23,7 +23,7 @@ pub fn print_index(text: &[u8], out: &mut [u8]) -> usize
             let reason = refusal.reason;
             let number = refusal::reason_number(reason);
             let place = refusal.place as u32;
-            text::write_pair_line(out, 0, number, place);
+            lines::write_pair_line(out, 0, number, place);
             text::LINE_LENGTH
         }
     }

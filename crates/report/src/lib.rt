@@ -35,11 +35,11 @@ pub fn number_lines(text: &mut [u8]) {
     if text.len() < LINE_LENGTH {
         return;
     }
-    text::write_pair_line(text, 0, 2, 9);
+    lines::write_pair_line(text, 0, 2, 9);
     let mut at = LINE_LENGTH;
     let mut tag: u32 = 0;
     while LINE_LENGTH <= text.len() - at {
-        text::write_tag_line(text, at, tag);
+        lines::write_tag_line(text, at, tag);
         tag = std::num::wrapping_add_u32(tag, 1);
         at += LINE_LENGTH;
     }

@@ -27,7 +27,7 @@ pub fn write_lines(
         (statedSheet (now (ends .entry)) (now (seeds .entry)) (now (words .entry)) groups count)
         ++ drop (taglessLength groups) (now (buffer .entry)) ⌝ }
 {
-    text::write_pair_line(buffer, 0, count as u32, groups as u32);
+    lines::write_pair_line(buffer, 0, count as u32, groups as u32);
     let mut g = 0;
     while g < groups {
         write_group(ends, seeds, words, groups, count, g, buffer);

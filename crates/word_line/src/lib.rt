@@ -43,7 +43,7 @@ fn fields_at(bytes: &[u8], at: usize) -> Pair
     ensures answer { λ r. ⌜ pairMeaning r ≡ within (λ h. leb (h .1) seedMax) (bothFields
         (field 5 (take 5 (drop at (now (bytes .entry))))) (field 5 (take 5 (drop (at + 5) (now (bytes .entry)))))) ⌝ }
 {
-    let Pair::Numbers(start, seed) = text::read_two_fields(bytes, at) else {
+    let Pair::Numbers(start, seed) = lines::read_two_fields(bytes, at) else {
         return Pair::Malformed;
     };
     if refusal::SEED_MAX < seed {
@@ -99,7 +99,7 @@ pub fn write_word_line(buffer: &mut [u8], at: usize, start: u32, seed: u32, word
     requires { ⌜ at + wordLineLength ≤ length (now buffer) ⌝ }
     ensures bytes { λ _. ⌜ now (buffer .exit) ≡ writtenAt at (wordLine start seed word) (now (buffer .entry)) ⌝ }
 {
-    text::write_field(buffer, at, 5, start);
-    text::write_field(buffer, at + 5, 5, seed);
-    text::write_tag_line(buffer, at + 10, word);
+    lines::write_field(buffer, at, 5, start);
+    lines::write_field(buffer, at + 5, 5, seed);
+    lines::write_tag_line(buffer, at + 10, word);
 }

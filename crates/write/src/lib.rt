@@ -47,15 +47,15 @@ fn write_line(
 {
     let at = text::LINE_LENGTH * k;
     if k == 0 {
-        text::write_pair_line(buffer, at, count as u32, groups as u32);
+        lines::write_pair_line(buffer, at, count as u32, groups as u32);
         return;
     }
     let g = k - 1;
     if g < groups {
-        text::write_pair_line(buffer, at, start_of(ends, g), seeds[g]);
+        lines::write_pair_line(buffer, at, start_of(ends, g), seeds[g]);
         return;
     }
-    text::write_tag_line(buffer, at, slots[g - groups]);
+    lines::write_tag_line(buffer, at, slots[g - groups]);
 }
 
 // Where group g begins: where the group before it ends.
