@@ -4,7 +4,8 @@ use mathlib.Core.List.{List}
 use Prim.Native.Nat.{ℕ}
 use Rattle.refusal.specs.Outcome.{answeredBy}
 use Rattle.lookup.specs.Condition2Laws.{lookup-condition2}
-use Rattle.tag_index.specs.Answer64.{answer64, foundNumber, lookupAnswer}
+use Rattle.answer64.specs.Answer64.{answer64, foundNumber}
+use Rattle.tag_index.specs.Calls.{lookupAnswer}
 use Rattle.tag_index.specs.Condition2.{AnswerCondition2}
 
 -- What lookup answers is the answer, and meets it.

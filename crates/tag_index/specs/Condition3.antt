@@ -6,7 +6,7 @@ use Rattle.refusal.specs.Outcome.{Outcome, answeredBy}
 use Rattle.group.specs.Placing.{Placement}
 use Rattle.placing.specs.Condition3.{GroupCondition3}
 use Rattle.from_text.specs.Condition3.{TextPlanningCondition3, TextWritingCondition3, TextCondition3}
-use Rattle.tag_index.specs.Answer64.{outcome64}
+use Rattle.answer64.specs.Answer64.{outcome64}
 
 -- Condition 3, for the list that a text states. Planning's part: of the 64-bit number r that the call answers, and of the plan;
 abbrev pub PlanCondition3 : List ℕ → ℕ → List ℕ → Type 0

@@ -1,6 +1,6 @@
-pub mod Answer64
+pub mod Calls
 pub mod PlaceLaws
-pub mod Answer64Laws
+pub mod CallsLaws
 pub mod Condition2
 pub mod Condition2Laws
 pub mod Condition3

@@ -14,8 +14,9 @@ use Rattle.refusal.specs.PlaceLaws.{PlaceBelow, Numbered, below-checks, numbere
 use Rattle.group.specs.Ascending.{notAbove}
 use Rattle.group.specs.Placing.{Placement, placingChecks, placingOf}
 use Rattle.placing.specs.Condition3Laws.{placing-condition3, answered-checked}
-use Rattle.tag_index.specs.Answer64.{answer64, placeAnswer, cellWith, wordAfter}
-use Rattle.tag_index.specs.Answer64Laws.{Fits, outcome-answer}
+use Rattle.answer64.specs.Answer64.{answer64}
+use Rattle.answer64.specs.Answer64Laws.{Fits, outcome-answer}
+use Rattle.tag_index.specs.Calls.{placeAnswer, cellWith, wordAfter}
 use Rattle.tag_index.specs.Condition3.{placed64, PlaceCondition3}
 
 -- A refusal names an index of the group, since check 5 comes before check 6, or 0; and has a number.

@@ -3,7 +3,7 @@ use mathlib.Core.List.{List}
 use Prim.Native.Nat.{ℕ}
 use Rattle.strict.specs.StrictCheck.{strictCheckOf}
 use Rattle.strict_condition.specs.Condition.{StrictCondition}
-use Rattle.tag_index.specs.Answer64.{answer64, outcome64}
+use Rattle.answer64.specs.Answer64.{answer64, outcome64}
 
 -- 0 for an image that is accepted.
 unfoldable pub strictCheckAnswer : List ℕ → ℕ

@@ -18,10 +18,10 @@ use Rattle.strict.specs.AsBuilt.{notAsBuilt}
 use Rattle.strict.specs.StrictCheck.{strictChecks, strictCheckOf}
 use Rattle.strict.specs.RebuiltLaws.{held-earlier}
 use Rattle.strict.specs.StrictTheorem.{nineteen-decides, refused-first}
+use Rattle.answer64.specs.Answer64.{outcome64}
+use Rattle.answer64.specs.Answer64Laws.{Fits, fits-of, answers-apart}
 use Rattle.tag_index.specs.PlaceLaws.{imageLines, checking-place}
-use Rattle.tag_index.specs.Answer64Laws.{Fits, fits-of, answers-apart}
 use Rattle.strict_condition.specs.Condition.{Ours}
-use Rattle.tag_index.specs.Answer64.{outcome64}
 use Rattle.tag_index.specs.Strict.{strictCheckAnswer, StrictAnswerCondition}
 
 -- A refusal names a line or a slot, as checking's do, or a group.

@@ -12,7 +12,7 @@ use Rattle.tagless_image.specs.Lookup.{taglessLookupOf}
 use Rattle.tagless_lookup.specs.Checked.{Numberless}
 use Rattle.tagless.specs.FromText.{taglessFromText}
 use Rattle.tagless_from_text.specs.Condition.{TextTaglessCondition}
-use Rattle.tag_index.specs.Answer64.{answer64, outcome64, foundNumber}
+use Rattle.answer64.specs.Answer64.{answer64, outcome64, foundNumber}
 
 -- Building takes a list text and a buffer of `room` bytes and answers the length, checking 0, lookup the number or 4,294,967,295.
 unfoldable pub taglessBuildAnswer : List ℕ → ℕ → ℕ

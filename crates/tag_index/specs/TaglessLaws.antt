@@ -32,9 +32,10 @@ use Rattle.tagless_lookup.specs.CheckedLaws.{lookup-condition2}
 use Rattle.tagless.specs.Building.{taglessBuildingChecks, taglessBuildingOf}
 use Rattle.tagless.specs.FromText.{taglessFromText}
 use Rattle.tagless_from_text.specs.PlaceLaws.{tagless-text-place, answered-most}
-use Rattle.tag_index.specs.Answer64.{answer64, foundNumber}
+use Rattle.answer64.specs.Answer64.{answer64, foundNumber}
+use Rattle.answer64.specs.Answer64Laws.{Fits, fits-of, SlotFound, found-fits, found-apart, answers-apart}
 use Rattle.tag_index.specs.PlaceLaws.{imageLines}
-use Rattle.tag_index.specs.Answer64Laws.{Fits, fits-of, list-numbered, SlotFound, found-fits, found-apart, answers-apart}
+use Rattle.tag_index.specs.CallsLaws.{list-numbered}
 use Rattle.tag_index.specs.Tagless.{taglessBuildAnswer, taglessCheckAnswer, taglessLookupAnswer, TaglessAnswerCondition2}
 
 building-numbered : (tags : List ℕ) (groups limit room : ℕ) → Numbered (taglessBuildingOf tags groups limit room)
@@ -139,7 +140,7 @@ lookup-slot image t = go (taglessLookupOf image t) refl
 
 pub tagless-lookup-fits : (image : List ℕ) (t : ℕ) → Fits (answeredBy foundNumber (taglessLookupOf image t))
 tagless-lookup-fits image t =
-    found-fits (taglessLookupOf image t) (lookup-slot image t) (tagless-lookup-place image t) (lookup-numbered image t)
+    found-fits imageLines (taglessLookupOf image t) (omega arith) (lookup-slot image t) (tagless-lookup-place image t) (lookup-numbered image t)
 
 -- Calls with one answer came to one outcome.
 pub tagless-build-apart : (text text′ : List ℕ) (room room′ : ℕ) → taglessBuildAnswer text room ≡ taglessBuildAnswer text′ room′

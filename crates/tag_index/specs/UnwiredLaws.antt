@@ -18,8 +18,10 @@ use Rattle.image.specs.CheckedLookupLaws.{checked-wired}
 use Rattle.image.specs.UnwiredLaws.{unwired-unanswered}
 use Rattle.numbering.specs.FromText.{listFromText, planningFromText, writingFromText, buildingFromText}
 use Rattle.numbering.specs.UnwiredLaws.{planning-wired, writing-wired, from-text-wired}
-use Rattle.tag_index.specs.Answer64.{answer64, foundNumber, planAnswer, writeAnswer, buildAnswer, checkAnswer, lookupAnswer}
-use Rattle.tag_index.specs.Answer64Laws.{Fits, plan-fits, write-fits, build-fits, check-fits, lookup-fits}
+use Rattle.answer64.specs.Answer64.{answer64, foundNumber}
+use Rattle.answer64.specs.Answer64Laws.{Fits}
+use Rattle.tag_index.specs.Calls.{planAnswer, writeAnswer, buildAnswer, checkAnswer, lookupAnswer}
+use Rattle.tag_index.specs.CallsLaws.{plan-fits, write-fits, build-fits, check-fits, lookup-fits}
 
 -- An outcome that is no answer is a refusal.
 refusal-above : (o : Outcome ℕ) → Fits o → ((n : ℕ) → o ≡ answered n → ⊥) → tagEnd ≤ answer64 o

@@ -7,16 +7,11 @@ use checking::CheckAnswer;
 use lookup::LookupAnswer;
 use placing::PlacingAnswer;
 use planning::PlanAnswer;
-use refusal::Refusal;
 use writing::WriteAnswer;
 ghost use mathlib.Core.Path.{_≡_};
-ghost use Prim.Native.Nat.{_<_};
 ghost use lib.ListN.{length};
-ghost use Rattle.refusal.specs.Limits.{tagEnd};
-ghost use Rattle.refusal.specs.Reason.{refusalOf};
 ghost use Rattle.numbering.specs.FromText.{planFromText, writtenFromText, bufferFromText};
-ghost use Rattle.tag_index.specs.Answer64.{answer64, planAnswer, writeAnswer, buildAnswer, checkAnswer, lookupAnswer};
-ghost use Rattle.tag_index.specs.Answer64.{placeAnswer, wordAfter};
+ghost use Rattle.tag_index.specs.Calls.{planAnswer, writeAnswer, buildAnswer, checkAnswer, lookupAnswer, placeAnswer, wordAfter};
 ghost use Rattle.tag_index.specs.Condition2.{AnswerCondition2};
 ghost use Rattle.tagless.specs.FromText.{taglessBufferFromText};
 ghost use Rattle.tag_index.specs.Tagless.{taglessBuildAnswer, taglessCheckAnswer, taglessLookupAnswer};
@@ -33,7 +28,7 @@ pub extern "C" fn tag_index_build(text: &[u8], image: &mut [u8]) -> u64
 {
     match from_text::build_from_text(text, image) {
         BuildAnswer::Built(size) => size as u64,
-        BuildAnswer::Refused(refusal) => refusal_answer(refusal),
+        BuildAnswer::Refused(refusal) => answer64::refusal_answer(refusal),
     }
 }
 
@@ -46,7 +41,7 @@ pub extern "C" fn tag_index_plan(text: &[u8], plan: &mut [u32; 513]) -> u64
 {
     match from_text::plan_from_text(text, plan) {
         PlanAnswer::Planned(groups) => groups as u64,
-        PlanAnswer::Refused(refusal) => refusal_answer(refusal),
+        PlanAnswer::Refused(refusal) => answer64::refusal_answer(refusal),
     }
 }
 
@@ -59,7 +54,7 @@ pub extern "C" fn tag_index_write(text: &[u8], plan: &[u32; 513], image: &mut [u
 {
     match from_text::write_from_text(text, plan, image) {
         WriteAnswer::Written(size) => size as u64,
-        WriteAnswer::Refused(refusal) => refusal_answer(refusal),
+        WriteAnswer::Refused(refusal) => answer64::refusal_answer(refusal),
     }
 }
 
@@ -70,7 +65,7 @@ pub extern "C" fn tag_index_check(image: &[u8]) -> u64
 {
     match checking::check_image(image) {
         CheckAnswer::Accepted => 0,
-        CheckAnswer::Refused(refusal) => refusal_answer(refusal),
+        CheckAnswer::Refused(refusal) => answer64::refusal_answer(refusal),
     }
 }
 
@@ -82,7 +77,7 @@ pub extern "C" fn tag_index_strict_check(image: &[u8]) -> u64
 {
     match strict_checking::strict_check(image) {
         CheckAnswer::Accepted => 0,
-        CheckAnswer::Refused(refusal) => refusal_answer(refusal),
+        CheckAnswer::Refused(refusal) => answer64::refusal_answer(refusal),
     }
 }
 
@@ -95,7 +90,7 @@ pub extern "C" fn tag_index_lookup(image: &[u8], tag: u32) -> u64
     match lookup::lookup(image, tag) {
         LookupAnswer::Number(j) => j as u64,
         LookupAnswer::Unknown => UNKNOWN,
-        LookupAnswer::Refused(refusal) => refusal_answer(refusal),
+        LookupAnswer::Refused(refusal) => answer64::refusal_answer(refusal),
     }
 }
 
@@ -111,7 +106,7 @@ pub extern "C" fn tag_index_place_group(tags: &[u32], limit: u32, word: &mut [u3
             *word = [choices];
             seed as u64
         }
-        PlacingAnswer::Refused(refusal) => refusal_answer(refusal),
+        PlacingAnswer::Refused(refusal) => answer64::refusal_answer(refusal),
     }
 }
 
@@ -124,7 +119,7 @@ pub extern "C" fn tag_index_tagless_build(text: &[u8], image: &mut [u8]) -> u64
 {
     match tagless_from_text::build_from_text(text, image) {
         BuildAnswer::Built(size) => size as u64,
-        BuildAnswer::Refused(refusal) => refusal_answer(refusal),
+        BuildAnswer::Refused(refusal) => answer64::refusal_answer(refusal),
     }
 }
 
@@ -135,7 +130,7 @@ pub extern "C" fn tag_index_tagless_check(image: &[u8]) -> u64
 {
     match tagless_checking::tagless_check(image) {
         CheckAnswer::Accepted => 0,
-        CheckAnswer::Refused(refusal) => refusal_answer(refusal),
+        CheckAnswer::Refused(refusal) => answer64::refusal_answer(refusal),
     }
 }
 
@@ -148,18 +143,9 @@ pub extern "C" fn tag_index_tagless_lookup(image: &[u8], tag: u32) -> u64
     match tagless_lookup::tagless_lookup(image, tag) {
         LookupAnswer::Number(j) => j as u64,
         LookupAnswer::Unknown => UNKNOWN,
-        LookupAnswer::Refused(refusal) => refusal_answer(refusal),
+        LookupAnswer::Refused(refusal) => answer64::refusal_answer(refusal),
     }
 }
 
 // What a tag that the image does not have answers.
 const UNKNOWN: u64 = 4294967295;
-
-// A refusal's answer: its number × 2^32 plus its place.
-fn refusal_answer(refusal: Refusal) -> u64
-    requires { ⌜ refusal .place < tagEnd ⌝ }
-    ensures answer { λ r. ⌜ r ≡ answer64 (refusalOf refusal) ⌝ }
-{
-    let reason = refusal.reason;
-    refusal::reason_number(reason) as u64 * 4294967296 + refusal.place as u64
-}

@@ -38,7 +38,8 @@ use Rattle.numbering.specs.Writing.{sheetOf, choicesUnder, imageUnder, writingC
 use Rattle.numbering.specs.Building.{buildingOf}
 use Rattle.numbering.specs.FromText.{listFromText, buildingFromText}
 use Rattle.printing.specs.Printing.{imageOfList, outputOf, printed}
-use Rattle.tag_index.specs.Answer64.{answer64, foundNumber, buildAnswer, checkAnswer, lookupAnswer}
+use Rattle.answer64.specs.Answer64.{answer64, foundNumber}
+use Rattle.tag_index.specs.Calls.{buildAnswer, checkAnswer, lookupAnswer}
 
 -- `unfolding computed` opens every definition that these compute through.
 computed : ℕ

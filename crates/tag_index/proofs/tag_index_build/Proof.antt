@@ -14,8 +14,10 @@ use Rattle.from_text.specs.Condition3.{TextCondition3}
 use Rattle.from_text.specs.PromiseLaws.{TextPromised}
 use Rattle.refusal.specs.PlaceLaws.{place-below}
 use Rattle.from_text.specs.PlaceLaws.{textLines, from-text-place}
-use Rattle.tag_index.specs.Answer64.{answer64, buildAnswer}
-use Rattle.tag_index.specs.Answer64Laws.{promised64, build-fits}
+use Rattle.answer64.specs.Answer64.{answer64}
+use Rattle.answer64.specs.Answer64Laws.{promised64}
+use Rattle.tag_index.specs.Calls.{buildAnswer}
+use Rattle.tag_index.specs.CallsLaws.{build-fits}
 use Rattle.tag_index.specs.Condition3.{BuildCondition3}
 use Rattle.tag_index.proofs.tag_index_build.Statement.{statement}
 use Rattle.tag_index.proofs.tag_index_build.Tie as tie

@@ -8,7 +8,8 @@ use Rattle.refusal.specs.Outcome.{Outcome, answeredBy}
 use Rattle.image.specs.Lookup.{Found}
 use Rattle.lookup.specs.Answer.{lookupOutcome}
 use Rattle.refusal.specs.PlaceLaws.{place-below}
-use Rattle.tag_index.specs.Answer64.{answer64, foundNumber, lookupAnswer}
+use Rattle.answer64.specs.Answer64.{answer64, foundNumber}
+use Rattle.tag_index.specs.Calls.{lookupAnswer}
 use Rattle.tag_index.specs.Condition2Laws.{answered-condition2}
 use Rattle.tag_index.specs.PlaceLaws.{imageLines, lookup-place}
 use Rattle.tag_index.proofs.tag_index_lookup.Statement.{statement}

@@ -8,7 +8,8 @@ use Rattle.refusal.specs.Outcome.{answeredBy}
 use Rattle.refusal.specs.PlaceLaws.{place-below}
 use Rattle.placing.specs.Answer.{placingOutcome}
 use Rattle.placing.specs.declared.PlacingAnswer.{PlacingAnswer}
-use Rattle.tag_index.specs.Answer64.{answer64, cellWith}
+use Rattle.answer64.specs.Answer64.{answer64}
+use Rattle.tag_index.specs.Calls.{cellWith}
 use Rattle.tag_index.specs.PlaceGroupLaws.{placing-place, seedAnswered, placed-promised}
 use Rattle.tag_index.proofs.tag_index_place_group.Statement.{statement}
 use Rattle.tag_index.proofs.tag_index_place_group.Tie as tie

@@ -13,8 +13,10 @@ use Rattle.numbering.specs.FromText.{planFromText}
 use Rattle.from_text.specs.Condition3.{TextPlanningCondition3}
 use Rattle.from_text.specs.PromiseLaws.{PlanPromised}
 use Rattle.from_text.specs.PlaceLaws.{textLines, plan-text-place}
-use Rattle.tag_index.specs.Answer64.{answer64, planAnswer}
-use Rattle.tag_index.specs.Answer64Laws.{promised64, plan-fits}
+use Rattle.answer64.specs.Answer64.{answer64}
+use Rattle.answer64.specs.Answer64Laws.{promised64}
+use Rattle.tag_index.specs.Calls.{planAnswer}
+use Rattle.tag_index.specs.CallsLaws.{plan-fits}
 use Rattle.tag_index.specs.Condition3.{PlanCondition3}
 use Rattle.tag_index.proofs.tag_index_plan.Statement.{statement}
 use Rattle.tag_index.proofs.tag_index_plan.Tie as tie

@@ -7,9 +7,9 @@ use Rattle.checking.specs.Answer.{checkOutcome}
 use Rattle.refusal.specs.PlaceLaws.{place-below}
 use Rattle.strict.specs.StrictCheck.{strictCheckOf}
 use Rattle.strict_condition.specs.Condition.{StrictCondition}
-use Rattle.tag_index.specs.Answer64.{answer64}
+use Rattle.answer64.specs.Answer64.{answer64}
+use Rattle.answer64.specs.Answer64Laws.{promised64}
 use Rattle.tag_index.specs.PlaceLaws.{imageLines}
-use Rattle.tag_index.specs.Answer64Laws.{promised64}
 use Rattle.tag_index.specs.Strict.{strictCheckAnswer}
 use Rattle.tag_index.specs.StrictLaws.{strict-place, strict-fits}
 use Rattle.tag_index.proofs.tag_index_strict_check.Statement.{statement}

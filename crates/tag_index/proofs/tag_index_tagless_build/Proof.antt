@@ -15,8 +15,8 @@ use Rattle.tagless_from_text.specs.PromiseLaws.{TextPromised}
 use Rattle.refusal.specs.PlaceLaws.{place-below}
 use Rattle.from_text.specs.PlaceLaws.{textLines}
 use Rattle.tagless_from_text.specs.PlaceLaws.{tagless-text-place}
-use Rattle.tag_index.specs.Answer64.{answer64}
-use Rattle.tag_index.specs.Answer64Laws.{promised64}
+use Rattle.answer64.specs.Answer64.{answer64}
+use Rattle.answer64.specs.Answer64Laws.{promised64}
 use Rattle.tag_index.specs.Tagless.{taglessBuildAnswer, TaglessBuildCondition}
 use Rattle.tag_index.specs.TaglessLaws.{tagless-build-fits}
 use Rattle.tag_index.proofs.tag_index_tagless_build.Statement.{statement}

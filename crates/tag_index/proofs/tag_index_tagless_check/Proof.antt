@@ -5,7 +5,7 @@ use mathlib.Core.Path.{sym, _∙_, ap}
 use native.Mathlib.Omega.{arith}
 use Rattle.checking.specs.Answer.{checkOutcome}
 use Rattle.refusal.specs.PlaceLaws.{place-below}
-use Rattle.tag_index.specs.Answer64.{answer64}
+use Rattle.answer64.specs.Answer64.{answer64}
 use Rattle.tag_index.specs.PlaceLaws.{imageLines}
 use Rattle.tag_index.specs.Tagless.{taglessCheckAnswer}
 use Rattle.tag_index.specs.TaglessLaws.{tagless-check-place}

@@ -8,7 +8,7 @@ use Rattle.refusal.specs.Outcome.{Outcome, answeredBy}
 use Rattle.image.specs.Lookup.{Found}
 use Rattle.lookup.specs.Answer.{lookupOutcome}
 use Rattle.refusal.specs.PlaceLaws.{place-below}
-use Rattle.tag_index.specs.Answer64.{answer64, foundNumber}
+use Rattle.answer64.specs.Answer64.{answer64, foundNumber}
 use Rattle.tag_index.specs.Tagless.{taglessLookupAnswer}
 use Rattle.tag_index.specs.TaglessLaws.{tagless-lookup-place, tagless-condition2}
 use Rattle.tag_index.specs.PlaceLaws.{imageLines}

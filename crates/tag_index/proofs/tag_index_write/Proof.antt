@@ -14,8 +14,10 @@ use Rattle.numbering.specs.FromText.{writtenFromText}
 use Rattle.from_text.specs.Condition3.{TextWritingCondition3}
 use Rattle.from_text.specs.PromiseLaws.{WritePromised}
 use Rattle.from_text.specs.PlaceLaws.{textLines, write-text-place}
-use Rattle.tag_index.specs.Answer64.{answer64, writeAnswer}
-use Rattle.tag_index.specs.Answer64Laws.{promised64, write-fits}
+use Rattle.answer64.specs.Answer64.{answer64}
+use Rattle.answer64.specs.Answer64Laws.{promised64}
+use Rattle.tag_index.specs.Calls.{writeAnswer}
+use Rattle.tag_index.specs.CallsLaws.{write-fits}
 use Rattle.tag_index.specs.Condition3.{WriteCondition3}
 use Rattle.tag_index.proofs.tag_index_write.Statement.{statement}
 use Rattle.tag_index.proofs.tag_index_write.Tie as tie

@@ -11,7 +11,7 @@ use Rattle.refusal.specs.Checks.{met, inOrder}
 use Rattle.list.specs.Reading.{readingChecks, readingOf}
 use Rattle.numbering.specs.FromText.{listFromText}
 use Rattle.tagless.specs.FromText.{taglessFromText, taglessBufferFromText}
-use Rattle.tag_index.specs.Answer64.{answer64}
+use Rattle.answer64.specs.Answer64.{answer64}
 use Rattle.tag_index.specs.Tagless.{taglessBuildAnswer}
 use Rattle.tag_index.proofs.worked.build_from_nothing.Statement.{statement}
 use Rattle.tag_index.proofs.worked.build_from_nothing.Tie as tie

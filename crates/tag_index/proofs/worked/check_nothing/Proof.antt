@@ -8,7 +8,7 @@ use Rattle.lists.specs.First.{metAt}
 use Rattle.refusal.specs.Checks.{met, inOrder}
 use Rattle.tagless_image.specs.View.{taglessView}
 use Rattle.tagless_image.specs.Checking.{taglessOpening, taglessChecks, taglessCheckingOf}
-use Rattle.tag_index.specs.Answer64.{answer64}
+use Rattle.answer64.specs.Answer64.{answer64}
 use Rattle.tag_index.specs.Tagless.{taglessCheckAnswer}
 use Rattle.tag_index.proofs.worked.check_nothing.Statement.{statement}
 use Rattle.tag_index.proofs.worked.check_nothing.Tie as tie

@@ -8,7 +8,7 @@ use native.Mathlib.Omega.{arith}
 use Rattle.refusal.specs.Outcome.{answeredBy}
 use Rattle.tagless_opening.specs.OpeningLaws.{open-short}
 use Rattle.tagless_lookup.specs.StepsLaws.{lookup-unopened}
-use Rattle.tag_index.specs.Answer64.{answer64}
+use Rattle.answer64.specs.Answer64.{answer64}
 use Rattle.tag_index.specs.Tagless.{taglessLookupAnswer}
 use Rattle.tag_index.proofs.worked.look_up_in_nothing.Statement.{statement}
 use Rattle.tag_index.proofs.worked.look_up_in_nothing.Tie as tie

@@ -8,7 +8,7 @@ use Rattle.refusal.specs.Checks.{met, inOrder}
 use Rattle.image.specs.View.{viewOf}
 use Rattle.image.specs.Checking.{openingChecks, checkingChecks}
 use Rattle.strict.specs.StrictCheck.{strictChecks, strictCheckOf}
-use Rattle.tag_index.specs.Answer64.{answer64}
+use Rattle.answer64.specs.Answer64.{answer64}
 use Rattle.tag_index.specs.Strict.{strictCheckAnswer}
 use Rattle.tag_index.proofs.worked.strictly_check_nothing.Statement.{statement}
 use Rattle.tag_index.proofs.worked.strictly_check_nothing.Tie as tie

@@ -1,9 +1,9 @@
--- `tag_index::refusal_answer` meets its contract: a number and a place of 32 bits each fit 64. Assumes nothing.
+-- `answer64::refusal_answer` meets its contract: a number and a place of 32 bits each fit 64. Assumes nothing.
 use borrow.Author.Needs.{needs}
 use native.Mathlib.Omega.{arith}
-use Rattle.tag_index.specs.Answer64.{answer64}
-use Rattle.tag_index.proofs.refusal_answer.Statement.{statement}
-use Rattle.tag_index.proofs.refusal_answer.Tie as tie
+use Rattle.answer64.specs.Answer64.{answer64}
+use Rattle.answer64.proofs.refusal_answer.Statement.{statement}
+use Rattle.answer64.proofs.refusal_answer.Tie as tie
 
 returns : tie.Need-returns
 unfolding answer64

@@ -1,18 +1,16 @@
--- The 64-bit answers keep apart all outcomes that the functions can come to: an answer is taken apart into its outcome.
--- Assumes nothing.
-use mathlib.Core.Path.{_≡_, refl, sym, _∙_, ap}
+-- The 64-bit answers keep apart all outcomes that the calls can come to: each of them fits. Assumes nothing.
+use mathlib.Core.Path.{_≡_, refl}
 use mathlib.Core.Bool.{not}
 use mathlib.Core.List.{List, [], _∷_}
-use Prim.Native.Nat.{ℕ, _+_, _*_, _/_, _%_, _≤_, _<_}
+use Prim.Native.Nat.{ℕ, _<_}
 use native.Mathlib.Omega.{arith}
 use lib.Dec.{eqb}
-use borrow.Author.Tests.{lt-ltb, le-ltb}
 use Rattle.refusal.specs.Limits.{tagEnd, tagsMax, unwired}
 use Rattle.refusal.specs.Outcome.{Outcome, answered, refused, answeredBy}
 use Rattle.refusal.specs.OutcomeLaws.{answered-of-followed}
 use Rattle.lists.specs.First.{metAt, isSome}
 use Rattle.refusal.specs.ChecksLaws.{inOrder-answered}
-use Rattle.refusal.specs.PlaceLaws.{PlaceBelow, Numbered, numbered-checks, numbered-followed, numbered-cond}
+use Rattle.refusal.specs.PlaceLaws.{Numbered, numbered-checks, numbered-followed, numbered-cond}
 use Rattle.list.specs.Reading.{readingChecks, readingOf}
 use Rattle.hash.specs.Formula.{groupOf}
 use Rattle.image.specs.View.{View, viewOf, groupsIn, startIn, endIn, slotLineIn, slotIn}
@@ -29,40 +27,10 @@ use Rattle.numbering.specs.Building.{buildingOf}
 use Rattle.numbering.specs.BuildingLaws.{answered-most}
 use Rattle.numbering.specs.FromText.{listFromText, planningFromText, writingFromText, buildingFromText}
 use Rattle.from_text.specs.PlaceLaws.{textLines, plan-text-place, write-text-place, from-text-place}
-use Rattle.tag_index.specs.Answer64.{answer64, outcome64, foundNumber, planAnswer, writeAnswer, buildAnswer}
-use Rattle.tag_index.specs.Answer64.{checkAnswer, lookupAnswer}
+use Rattle.answer64.specs.Answer64.{foundNumber}
+use Rattle.answer64.specs.Answer64Laws.{Fits, fits-of, answers-apart, SlotFound, found-fits, found-apart}
+use Rattle.tag_index.specs.Calls.{planAnswer, writeAnswer, buildAnswer, checkAnswer, lookupAnswer}
 use Rattle.tag_index.specs.PlaceLaws.{imageLines, checking-place, lookup-place}
-
--- An outcome that fits 64 bits: an answer below 2^32, or a number that is not 0 and a place below 2^32.
-abbrev pub Fits : Outcome ℕ → Type 0
-Fits (answered n) = n < tagEnd
-Fits (refused reason place) = (0 < reason) × (place < tagEnd)
-
--- Its answer is taken apart into it,
-pub outcome-answer : (o : Outcome ℕ) → Fits o → outcome64 (answer64 o) ≡ o
-unfolding answer64 outcome64
-outcome-answer (answered n) fits = rw (lt-ltb n tagEnd fits)
-outcome-answer (refused reason place) (some-reason, below) =
-    let high : tagEnd ≤ reason * tagEnd + place = omega arith in
-    let quotient : (reason * tagEnd + place) / tagEnd ≡ reason = omega arith in
-    let rest : (reason * tagEnd + place) % tagEnd ≡ place = omega arith in
-    rw (le-ltb (reason * tagEnd + place) tagEnd high, quotient, rest)
-
--- so that what holds of the outcome holds of what the answer is taken apart into,
-pub promised64 : (o : Outcome ℕ) → Fits o → (holds : Outcome ℕ → Type 0) {outcome : Outcome ℕ} {r : ℕ} → outcome ≡ o
-    → r ≡ answer64 outcome → holds outcome → (r ≡ answer64 o) × holds (outcome64 r)
-promised64 o fits holds told answer h =
-    let of-outcome = answer ∙ ap answer64 told in
-    let taken-apart = ap outcome64 of-outcome ∙ outcome-answer o fits ∙ sym told in
-    (of-outcome, rw taken-apart h)
-
--- and two of them have two answers.
-pub answers-apart : (o p : Outcome ℕ) → Fits o → Fits p → answer64 o ≡ answer64 p → o ≡ p
-answers-apart o p fo fp e = sym (outcome-answer o fo) ∙ ap outcome64 e ∙ outcome-answer p fp
-
-pub fits-of : (bound : ℕ) (o : Outcome ℕ) → bound ≤ tagEnd → PlaceBelow bound o → Numbered o → ((n : ℕ) → o ≡ answered n → n < tagEnd) → Fits o
-fits-of bound (answered n) le place numbered below = below n refl
-fits-of bound (refused reason place) le low numbered below = (numbered, omega arith)
 
 -- Every refusal of planning, of writing and of building from a text has a number, B is at most 512, and a length at most 50,699.
 pub list-numbered : (text : List ℕ) → Numbered (listFromText text)
@@ -146,12 +114,6 @@ lookup-numbered image t =
     (numbered-cond (eqb (startIn v g) (endIn v g)) (answered unknown) _ tt
     (slots-numbered v t _ _ (slots-numbered v t _ (answered unknown) tt))))
 
--- A number that lookup answers.
-abbrev pub SlotFound : Outcome Found → Type 0
-SlotFound (answered (number j)) = j < tagsMax
-SlotFound (answered unknown) = Unit {0}
-SlotFound (refused reason place) = Unit {0}
-
 lookup-slot : (image : List ℕ) (t : ℕ) → SlotFound (lookupOf image t)
 lookup-slot image t = go (lookupOf image t) refl
   where
@@ -160,25 +122,9 @@ lookup-slot image t = go (lookupOf image t) refl
     go (answered unknown) e = tt
     go (refused reason place) e = tt
 
--- A number below 4,096, unknown, or a refusal that fits.
-pub found-fits : (o : Outcome Found) → SlotFound o → PlaceBelow imageLines o → Numbered o → Fits (answeredBy foundNumber o)
-unfolding answeredBy foundNumber
-found-fits (answered (number j)) slot place numbered = omega arith
-found-fits (answered unknown) slot place numbered = omega arith
-found-fits (refused reason place) slot low numbered = (numbered, omega arith)
-
 pub lookup-fits : (image : List ℕ) (t : ℕ) → Fits (answeredBy foundNumber (lookupOf image t))
-lookup-fits image t = found-fits (lookupOf image t) (lookup-slot image t) (lookup-place image t) (lookup-numbered image t)
-
-pub found-apart : (o p : Outcome Found) → SlotFound o → SlotFound p → answeredBy foundNumber o ≡ answeredBy foundNumber p → o ≡ p
-unfolding answeredBy foundNumber
-found-apart (answered (number i)) (answered (number j)) so sp e = let same : i ≡ j = cc in rw same
-found-apart (answered (number i)) (answered unknown) so sp e = let same : i ≡ 4294967295 = cc in absurd (omega arith)
-found-apart (answered unknown) (answered (number j)) so sp e = let same : j ≡ 4294967295 = cc in absurd (omega arith)
-found-apart (answered unknown) (answered unknown) so sp e = refl
-found-apart (answered f) (refused reason place) so sp e = absurd (let z : _≡_ {A = ℕ} 0 1 = cc in omega arith)
-found-apart (refused reason place) (answered f) so sp e = absurd (let z : _≡_ {A = ℕ} 0 1 = cc in omega arith)
-found-apart (refused reason place) (refused reason′ place′) so sp e = cc
+lookup-fits image t =
+    found-fits imageLines (lookupOf image t) (omega arith) (lookup-slot image t) (lookup-place image t) (lookup-numbered image t)
 
 -- Calls with one answer came to one outcome: planning,
 pub plan-apart : (text text′ : List ℕ) → planAnswer text ≡ planAnswer text′ → planningFromText text ≡ planningFromText text′

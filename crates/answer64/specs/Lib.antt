@@ -1,0 +1,2 @@
+pub mod Answer64
+pub mod Answer64Laws
