@@ -78,7 +78,7 @@ fn edited(name: &[u8], line: usize, text: &[u8], other_line: usize, other: &[u8]
     image(name, &bytes);
 }
 
-// What building writes: the whole case, empty lists, small limits, the image of six groups, and two edited ones that are other lists'.
+// What building writes: the whole case, empty lists, small limits.
 fn built() {
     image(
         b"whole case",
@@ -94,6 +94,10 @@ fn built() {
         b"built with L = 2",
         b"    2    1\n    0    1\n         1\n         3\n",
     );
+}
+
+// The image of six groups, and two edited ones that are other lists'.
+fn built_in_six_groups() {
     edited(b"six groups, built with L = 7", 0, b"", 0, b"");
     edited(
         b"tag 7 of group 3 is 28: another list",
@@ -115,7 +119,7 @@ fn built() {
     );
 }
 
-// Another seed that serves too: of the first group, of one with one tag, of the last with tags, and of empty groups.
+// Another seed that serves too.
 fn seeds() {
     image(
         b"whole case, seed 7 in group 0",
@@ -129,6 +133,10 @@ fn seeds() {
         b"seed 2 where seed 1 serves",
         b"    2    1\n    0    2\n         3\n         1\n",
     );
+}
+
+// And in the image of six groups.
+fn seeds_in_six_groups() {
     edited(
         b"group 0 under seed 2",
         1,
@@ -139,6 +147,10 @@ fn seeds() {
     edited(b"group 3 with seed 1", 4, b"    5    1\n", 0, b"");
     edited(b"group 4 under seed 7", 5, b"    6    7\n", 0, b"");
     edited(b"group 4 under seed 65535", 5, b"    665535\n", 0, b"");
+}
+
+// And of empty groups.
+fn seeds_of_empty_groups() {
     image(b"empty list with seed 1", b"    0    1\n    0    1\n");
     image(
         b"empty list with seed 65535 in the last group",
@@ -238,6 +250,10 @@ fn due_at_once() {
         b"one line more, seed 7 in group 0",
         b"    3    2\n    0    7\n    1    1\n         2\n         1\n         3\n         4\n",
     );
+}
+
+// In the image of six groups: malformed lines, tag 0, faulty groups.
+fn lines_at_fault() {
     edited(b"B = 0", 0, b"    8    0\n    0    9\n", 0, b"");
     edited(
         b"a group line malformed",
@@ -262,6 +278,10 @@ fn due_at_once() {
         6,
         b"    8    1\n",
     );
+}
+
+// And tags at fault.
+fn tags_at_fault() {
     edited(
         b"a tag of another group",
         12,
@@ -345,10 +365,15 @@ fn group_of_32() {
 
 fn main() {
     built();
+    built_in_six_groups();
     seeds();
+    seeds_in_six_groups();
+    seeds_of_empty_groups();
     sequences();
     several();
     exchanged();
     due_at_once();
+    lines_at_fault();
+    tags_at_fault();
     group_of_32();
 }
