@@ -109,6 +109,10 @@ fn building() {
     );
     build(b"B = 0", b"    0    9\n         1\n");
     build(b"L = 0", b"    2    0\n         1\n");
+}
+
+// And those that go by the tags and the buffer.
+fn building_refused() {
     build(
         b"tag 2 after tag 3",
         b"    2    9\n         1\n         3\n         2\n",
@@ -154,7 +158,7 @@ fn plans() {
     );
 }
 
-// The whole case under its plan, whatever B and L the text has, and under another; and refusals of writing, reading's first.
+// The whole case under its plan, whatever B and L the text has, and under another; and refusals, reading's first.
 fn writing() {
     write(
         b"writing of the whole case",
@@ -185,6 +189,10 @@ fn writing() {
         65536,
         0,
     );
+}
+
+// Refusals of writing itself, by the plan, the list and the buffer.
+fn writing_refused() {
     write(
         b"writing, seed 65536 in group 1, tag 2 after tag 3",
         b"    2    9\n         1\n         3\n         2\n",
@@ -321,6 +329,10 @@ fn groups() {
     place(b"a path of 32 tags", &tags[..32], 1);
     place(b"33 tags", &tags, 1);
     place(b"33 tags, L = 0", &tags, 0);
+}
+
+// Refusals of few tags.
+fn groups_refused() {
     place(b"L = 0", &[1, 3], 0);
     place(b"L = 65537", &[1, 3], 65537);
     place(b"tag 5 after tag 9", &[3, 9, 5], 1);
@@ -375,7 +387,7 @@ fn tagless_images() {
     );
 }
 
-// The image of the whole case, and edited ones: each refusal of checking, with seed 7 in group 0 besides, and 19 at either group.
+// The image of the whole case; no bytes; each refusal of checking behind the opening, with seed 7 in group 0 besides.
 fn strict_images() {
     strict(
         b"strict check of the whole image",
@@ -402,6 +414,10 @@ fn strict_images() {
         b"strict check, tag twice",
         b"    3    2\n    0    7\n    1    1\n         2\n         3\n         3\n",
     );
+}
+
+// 19 at either group: a later seed, another sequence, an empty group's seed.
+fn edited_images() {
     strict(
         b"strict check, seed 7 in group 0",
         b"    3    2\n    0    7\n    1    1\n         2\n         1\n         3\n",
@@ -422,12 +438,16 @@ fn strict_images() {
 
 fn main() {
     building();
+    building_refused();
     plans();
     writing();
+    writing_refused();
     long_texts();
     images();
     groups();
+    groups_refused();
     tagless_building();
     tagless_images();
     strict_images();
+    edited_images();
 }
