@@ -15,7 +15,8 @@ use Rattle.strict.specs.AsBuilt.{seedGiven, slotsGiven, differs}
 neither : (a b : Bool) → a ≡ true → b ≡ true → (not a || not b) ≡ false
 neither a b e f = rw (e, f)
 
-pub as-given : (seed : ℕ) (slots : List ℕ) → seed ≡ seedGiven (sorted slots) → slots ≡ slotsGiven (sorted slots) → differs seed slots ≡ false
+pub as-given : (seed : ℕ) (slots : List ℕ) → seed ≡ seedGiven (sorted slots) → slots ≡ slotsGiven (sorted slots)
+    → differs seed slots ≡ false
 unfolding differs
 as-given seed slots e f =
     neither (eqb seed (seedGiven (sorted slots))) (same slots (slotsGiven (sorted slots))) (eq-eqb seed (seedGiven (sorted slots)) e)

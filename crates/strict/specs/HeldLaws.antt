@@ -209,14 +209,18 @@ module _ (image : List ℕ) (accepted : checkingOf image ≡ answered 0) where
     stated-fills =
         let keys = groupUnder tags (seedIn v g) in
         let many-keys = group-size tags (seedIn v g) in
-        let (cs, whole, each) = collected size Stands stands in
-        (cs, apart-fills keys cs (whole ∙ sym tags-size ∙ sym many-keys) (λ i j li lj e. once cs each i j (rw (many-keys, tags-size) at li) (rw (many-keys, tags-size) at lj) e))
+        let (cs, whole, each) = collected size Stands stands in (
+          cs,
+          apart-fills keys cs (whole ∙ sym tags-size ∙ sym many-keys) (λ i j li lj e.
+              once cs each i j (rw (many-keys, tags-size) at li) (rw (many-keys, tags-size) at lj) e),
+        )
       where
         once : (cs : List Bool) → ((i : ℕ) → i < size → Stands i (getD cs i false)) → (i j : ℕ) → i < size → j < size
             → placeBy (getD cs i false) (getD (groupUnder tags (seedIn v g)) i (0, 0))
             ≡ placeBy (getD cs j false) (getD (groupUnder tags (seedIn v g)) j (0, 0)) → i ≡ j
         once cs each i j li lj e =
-            distinct-getD tags (ascending-distinct tags (sorted-ascending (slotsIn v g) slots-differ)) i j (rw tags-size li) (rw tags-size lj)
+            let ascending = sorted-ascending (slotsIn v g) slots-differ in
+            distinct-getD tags (ascending-distinct tags ascending) i j (rw tags-size li) (rw tags-size lj)
             (sym (each i li) ∙ rw e (each j lj))
 
   -- Its line states what is read from it, a seed in its range.

@@ -7,7 +7,7 @@ use mathlib.Core.List.{List, [], _∷_}
 use mathlib.Core.Option.{Option, Option·getD}
 use native.Mathlib.Omega.{arith}
 use lib.Dec.{ltb}
-use lib.ListN.{length, getD, take, drop, take-append-drop, length-drop}
+use lib.ListN.{length, getD, drop, take-append-drop, length-drop}
 use lib.Seq.{drop-drop}
 use borrow.Author.Tests.{ltb-true, ltb-false}
 use Rattle.refusal.specs.Outcome.{answered}
@@ -32,7 +32,7 @@ lines-decide (suc n) xs ys lx ly each =
     (omega (arith, ly, length-drop lineLength ys)) next in
     sym (take-append-drop lineLength xs) ∙ rw (each 0 (omega arith), rest) (take-append-drop lineLength ys)
   where
-    next : (k : ℕ) → k < n → take lineLength (drop (lineLength * k) (drop lineLength xs)) ≡ take lineLength (drop (lineLength * k) (drop lineLength ys))
+    next : (k : ℕ) → k < n → lineAt k (drop lineLength xs) ≡ lineAt k (drop lineLength ys)
     next k lt =
         let line : lineLength + lineLength * k ≡ lineLength * suc k = omega arith in
         rw (drop-drop (lineLength * k) lineLength xs, drop-drop (lineLength * k) lineLength ys, line) (each (suc k) (omega arith))
@@ -59,7 +59,8 @@ module _ (image other : List ℕ) (a : checkingOf image ≡ answered 0) (b : che
           go : (c : Bool) → ltb k (groupsIn v) ≡ c → lineAt (suc k) image ≡ lineAt (suc k) other
           go true e =
               let below = ltb-true k (groupsIn v) e in
-              (group-stated image a k below) .0 ∙ rw (starts k below, seeds k below) (sym ((group-stated other b k (rw same-groups at below)) .0))
+              let there = rw same-groups at below in
+              (group-stated image a k below) .0 ∙ rw (starts k below, seeds k below) (sym ((group-stated other b k there) .0))
           go false e =
               let past = ltb-false k (groupsIn v) e in
               let j : ℕ = k - groupsIn v in

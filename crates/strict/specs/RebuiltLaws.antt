@@ -36,8 +36,8 @@ use Rattle.numbering.specs.PlanningLaws.{planning-answered}
 use Rattle.condition3.specs.Condition3.{EarlierChecks}
 use Rattle.condition3_theorem.specs.Condition3Theorem.{pass-of-earlier}
 use Rattle.strict.specs.AsBuilt.{slotsIn}
-use Rattle.strict.specs.HeldLaws.{many, all-fair, own-lies, holds, slots-apart, slots-size, slots-at, slot-below, slot-group, slots-differ}
-use Rattle.strict.specs.HeldLaws.{slot-stated, servable, seed-found}
+use Rattle.strict.specs.HeldLaws.{many, all-fair, own-lies, holds, slots-apart, slots-size, slots-at, slot-below, slot-group}
+use Rattle.strict.specs.HeldLaws.{slots-differ, slot-stated, servable, seed-found}
 
 -- Two tests that say yes to the same.
 pub alike : (a b : Bool) → (a ≡ true → b ≡ true) → (b ≡ true → a ≡ true) → a ≡ b

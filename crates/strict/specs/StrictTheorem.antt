@@ -10,7 +10,8 @@ use lib.Seq.{take-at}
 use Rattle.refusal.specs.Limits.{tagEnd, limitMax}
 use Rattle.refusal.specs.Outcome.{answered, refused}
 use Rattle.refusal.specs.Checks.{inOrder}
-use Rattle.refusal.specs.ChecksLaws.{inOrder-append, inOrder-pass, inOrder-answered, inOrder-refused, refused-inOrder, met-alone, pass-split}
+use Rattle.refusal.specs.ChecksLaws.{inOrder-append, inOrder-pass, inOrder-answered, inOrder-refused, refused-inOrder, met-alone}
+use Rattle.refusal.specs.ChecksLaws.{pass-split}
 use Rattle.lists.specs.First.{first}
 use Rattle.lists.specs.FirstLaws.{first-some, first-none, first-found, first-out}
 use Rattle.lists.specs.Occurs.{occurs}
@@ -37,8 +38,8 @@ use Rattle.strict.specs.AsBuiltLaws.{as-given, given-of}
 use Rattle.strict.specs.StrictCheck.{strictChecks, strictCheckOf}
 use Rattle.strict_condition.specs.Condition.{Builds, Ours, Rebuilt, groupLines, LowestApart, StrictCondition}
 use Rattle.strict.specs.HeldLaws.{many, all-fair, slots-size, slots-at}
-use Rattle.strict.specs.RebuiltLaws.{heldTags, held-length, held-ascending, held-slot, slot-held, held-words, held-members, held-start}
-use Rattle.strict.specs.RebuiltLaws.{alike, held-planned}
+use Rattle.strict.specs.RebuiltLaws.{heldTags, held-length, held-ascending, held-slot, slot-held, held-words, held-members}
+use Rattle.strict.specs.RebuiltLaws.{held-start, held-planned, alike}
 use Rattle.strict.specs.LinesLaws.{bytes-of-numbers, lines-of-numbers, numbers-of-lines}
 use Rattle.strict.specs.WrittenGroupsLaws.{written-checked, written-count, written-groups, written-start, written-end, written-seed}
 use Rattle.strict.specs.WrittenGroupsLaws.{written-slots}
@@ -59,7 +60,8 @@ builds-planned tags groups limit words planned =
     }
 
 -- and what building so writes is that image.
-planned-of-builds : {tags image : List ℕ} {groups limit : ℕ} → Builds tags groups limit image → planningOf tags groups limit ≡ answered groups
+planned-of-builds : {tags image : List ℕ} {groups limit : ℕ} → Builds tags groups limit image
+    → planningOf tags groups limit ≡ answered groups
 planned-of-builds {tags} {image} {groups} {limit} b = (answered-says tags groups limit (length image) (b .accepted image (omega arith))) .0
 
 image-of-builds : {tags image : List ℕ} {groups limit : ℕ} → Builds tags groups limit image → image ≡ imageOf groups tags limit
@@ -245,8 +247,8 @@ module _ (image : List ℕ) (accepted : checkingOf image ≡ answered 0) where
   -- Of any image that building writes for these tags with this B and L = 65,536: it is that one.
   rebuilt-only : (other : Rebuilt image) → other .bytes ≡ again
   rebuilt-only other =
-      let list = held-only image accepted (other .tags) (planned-ascending (other .tags) groups limitMax (planned-of-builds (other .builds)))
-      (other .held) in
+      let ascending = planned-ascending (other .tags) groups limitMax (planned-of-builds (other .builds)) in
+      let list = held-only image accepted (other .tags) ascending (other .held) in
       image-of-builds (other .builds) ∙ ap (λ (own : List ℕ). imageOf groups own limitMax) (sym list)
 
   lowest-apart : (g : ℕ) → (strictCheckOf image ≡ refused 19 g) ↔ LowestApart image again g
@@ -299,7 +301,8 @@ ours-accepted image e =
     ours-as-built image accepted (first-none (notAsBuilt v) (groupsIn v) every)
 
 -- Checking's refusals come first.
-pub refused-first : (image : List ℕ) (reason place : ℕ) → checkingOf image ≡ refused reason place → strictCheckOf image ≡ refused reason place
+pub refused-first : (image : List ℕ) (reason place : ℕ) → checkingOf image ≡ refused reason place
+    → strictCheckOf image ≡ refused reason place
 unfolding strictCheckOf strictChecks checkingOf
 refused-first image reason place e =
     inOrder-append (checkingChecks (viewOf image)) _ _

@@ -54,7 +54,8 @@ module _ (image : List ℕ) {groups : ℕ} {starts seeds tags : List ℕ} (accep
     inside : getD starts (g + 1) 0 ≤ length tags
     inside =
         let most = end-most v (all-fair image accepted) g below in
-        omega (arith, most, end-is, stated .same .count, cells-count starts seeds tags groups, stated .legal .count-legal, stated .tags-long)
+        let count = stated .same .count ∙ cells-count starts seeds tags groups in
+        omega (arith, most, end-is, count, stated .legal .count-legal, stated .tags-long)
 
     slots-are : slotsIn v g ≡ slotsAt starts tags g
     slots-are =
@@ -67,7 +68,7 @@ module _ (image : List ℕ) {groups : ℕ} {starts seeds tags : List ℕ} (accep
         slots-at image accepted g below p lp′
         ∙ stated .same .slots (startIn v g + p) (slot-below image accepted g below p lp′)
         ∙ cells-slot starts seeds tags groups (startIn v g + p)
-        ∙ rw start-is (sym (getD-take (getD starts (g + 1) 0 - getD starts g 0) (drop (getD starts g 0) tags) p 0 lp″ ∙ getD-drop (getD starts g 0) tags p 0)))
+        ∙ rw start-is (sym (getD-take _ (drop (getD starts g 0) tags) p 0 lp″ ∙ getD-drop (getD starts g 0) tags p 0)))
 
   pub all-servable : AllServable starts seeds tags groups
   all-servable = record {

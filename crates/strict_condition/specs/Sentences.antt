@@ -40,8 +40,8 @@ ours-of tags groups limit writes = record { tags = tags; groups = groups; limit 
 -- The line of group g and those of its slots, by an image's own starts.
 abbrev pub linesOf : List ℕ → ℕ → List (List ℕ)
 linesOf image g =
-    lineAt (suc g) image
-    ∷ upTo (endIn (viewOf image) g - startIn (viewOf image) g) (λ p. lineAt (slotLineIn (viewOf image) (startIn (viewOf image) g + p)) image)
+    let start = startIn (viewOf image) g in
+    lineAt (suc g) image ∷ upTo (endIn (viewOf image) g - start) (λ p. lineAt (slotLineIn (viewOf image) (start + p)) image)
 
 module _ {image : List ℕ} {answer : Outcome ℕ} (c : StrictCondition image answer) where
   -- "the strict check accepts an image exactly when there are a list of 32-bit tags, a B and an L for which building, in every buffer

@@ -19,7 +19,8 @@ returns c =
     let read = told .before .before in
     let start = read .before .before .before .before in
     let found = sym (read .read-group-lines .ensures .0) ∙ ap firstMeaning (told .k .given .1) in
-    (c .refused .ensures ∙ sym (check-group-line (start .args .image .now) (start .pre .0) found), λ accepted. absurd (not-both (c .refused .ensures) accepted))
+    let refused = c .refused .ensures in
+    (refused ∙ sym (check-group-line (start .args .image .now) (start .pre .0) found), λ accepted. absurd (not-both refused accepted))
 
 read-slot-lines-requires : tie.Need-read-slot-lines-requires
 read-slot-lines-requires c κs =
@@ -35,7 +36,8 @@ returns-2 c =
     let read = told .before .before in
     let start = read .before .before .before .before .before .before .before .before in
     let found = sym (read .read-slot-lines .ensures .0) ∙ ap firstMeaning (told .k2 .given .1) in
-    (c .refused2 .ensures ∙ sym (check-line (start .args .image .now) (start .pre .0) found), λ accepted. absurd (not-both (c .refused2 .ensures) accepted))
+    let refused = c .refused2 .ensures in
+    (refused ∙ sym (check-line (start .args .image .now) (start .pre .0) found), λ accepted. absurd (not-both refused accepted))
 
 check-cells-requires : tie.Need-check-cells-requires
 check-cells-requires c κs =

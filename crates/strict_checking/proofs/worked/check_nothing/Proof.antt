@@ -1,7 +1,7 @@
 -- `strict_checking::worked::check_nothing` meets its contract, from the promise of `strict_check`: no bytes are too few. Assumes nothing.
 use borrow.Author.Needs.{needs}
 use mathlib.Core.Path.{_≡_, refl, _∙_}
-use mathlib.Core.List.{[], _++_}
+use mathlib.Core.List.{[]}
 use Rattle.lists.specs.First.{metAt}
 use Rattle.refusal.specs.Outcome.{refused}
 use Rattle.refusal.specs.Checks.{met, inOrder}

@@ -2,7 +2,7 @@
 -- Assumes nothing.
 use borrow.Author.Needs.{needs}
 use mathlib.Core.Path.{_≡_, refl, _∙_}
-use mathlib.Core.List.{[], _++_}
+use mathlib.Core.List.{[]}
 use Rattle.lists.specs.First.{metAt}
 use Rattle.refusal.specs.Checks.{met, inOrder}
 use Rattle.image.specs.View.{viewOf}
