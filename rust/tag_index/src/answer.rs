@@ -59,15 +59,7 @@ const WRITING: [Allowed; 9] = [
     (Reason::GroupTooLarge, GROUPS),
     (Reason::SeedDoesNotServe, GROUPS),
 ];
-const CHECKING: [Allowed; 6] = [
-    (Reason::WrongLength, NO_PLACE),
-    (Reason::MalformedLine, LINES_OF_IMAGE),
-    (Reason::UnwiredTag, SLOTS),
-    (Reason::FaultyGroup, GROUPS),
-    (Reason::WrongSlot, SLOTS),
-    (Reason::RepeatedTag, SLOTS),
-];
-/// All refusals of checking, and 19 behind them.
+/// The refusals of the strict check: those of checking, and 19 behind them.
 const STRICT_CHECKING: [Allowed; 7] = [
     (Reason::WrongLength, NO_PLACE),
     (Reason::MalformedLine, LINES_OF_IMAGE),
@@ -77,6 +69,8 @@ const STRICT_CHECKING: [Allowed; 7] = [
     (Reason::RepeatedTag, SLOTS),
     (Reason::NotAsBuilt, GROUPS),
 ];
+/// How many of them are checking's.
+const OF_CHECKING: usize = 6;
 const LOOKUP: [Allowed; 3] = [
     (Reason::WrongLength, NO_PLACE),
     (Reason::MalformedLine, LINES_OF_IMAGE),
@@ -156,22 +150,21 @@ fn length(operation: &str, answer: u64, room: usize) -> usize {
 
 /// Checking's answer: 0, or the refusal.
 pub(crate) fn checked(answer: u64) -> Result<(), Refusal> {
-    if let Some(refusal) = refusal(answer, &CHECKING) {
-        return Err(refusal);
-    }
-    if answer != 0 {
-        not_allowed("checking", answer);
-    }
-    Ok(())
+    accepted("checking", answer, &STRICT_CHECKING[..OF_CHECKING])
 }
 
 /// The strict check's answer: 0, or the refusal.
 pub(crate) fn strictly_checked(answer: u64) -> Result<(), Refusal> {
-    if let Some(refusal) = refusal(answer, &STRICT_CHECKING) {
+    accepted("the strict check", answer, &STRICT_CHECKING)
+}
+
+/// The answer of an operation that answers 0, or the refusal.
+fn accepted(operation: &str, answer: u64, allowed: &[Allowed]) -> Result<(), Refusal> {
+    if let Some(refusal) = refusal(answer, allowed) {
         return Err(refusal);
     }
     if answer != 0 {
-        not_allowed("the strict check", answer);
+        not_allowed(operation, answer);
     }
     Ok(())
 }
@@ -239,13 +232,7 @@ pub(crate) fn tagless_built(answer: u64, room: usize) -> Result<usize, Refusal> 
 
 /// The answer of checking an image without tags: 0, or the refusal.
 pub(crate) fn tagless_checked(answer: u64) -> Result<(), Refusal> {
-    if let Some(refusal) = refusal(answer, &TAGLESS_READING) {
-        return Err(refusal);
-    }
-    if answer != 0 {
-        not_allowed("checking without tags", answer);
-    }
-    Ok(())
+    accepted("checking without tags", answer, &TAGLESS_READING)
 }
 
 /// The answer of lookup in an image without tags: a number, nothing for unknown, or the refusal.
@@ -390,7 +377,10 @@ mod tests {
                 assert_eq!(has(&BUILDING), built_is(answer, refusal));
                 assert_eq!(has(&PLANNING), planned_is(answer, refusal));
                 assert_eq!(has(&WRITING), written_is(answer, refusal));
-                assert_eq!(has(&CHECKING), checked_is(answer, refusal));
+                assert_eq!(
+                    has(&STRICT_CHECKING[..OF_CHECKING]),
+                    checked_is(answer, refusal)
+                );
                 assert_eq!(has(&STRICT_CHECKING), strictly_checked_is(answer, refusal));
                 assert_eq!(has(&LOOKUP), looked_up_is(answer, refusal));
                 assert_eq!(has(&PLACING), placed_is(answer, refusal));
