@@ -1,0 +1,5 @@
+pub mod HowMany
+pub mod Graph
+pub mod Part
+pub mod Parts
+pub mod Sequences

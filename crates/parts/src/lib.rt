@@ -1,0 +1,117 @@
+// The operation "counting parts", a second test of a seed (document 02, §8): the connected parts of the graph whose points are the places
+// and whose edges are the tags are found and counted. No tag is moved.
+use refusal::First;
+use refusal::MEMBER_CELLS;
+use refusal::Reason;
+use refusal::Refusal;
+ghost use mathlib.Core.Path.{_≡_};
+ghost use mathlib.Core.Bool.{true, false, _&&_};
+
+// Whether the seed serves the group, with the number of parts; or refused.
+pub enum PartsAnswer {
+    Serves(u32),
+    DoesNotServe(u32),
+    Refused(Refusal),
+}
+
+// A refusal that names no place, or this one.
+fn refuse(reason: Reason, place: usize) -> PartsAnswer
+{
+    PartsAnswer::Refused(Refusal { reason, place })
+}
+
+// The operation "counting parts", for any list and any seed.
+pub fn count_parts(tags: &[u32], seed: u32) -> PartsAnswer
+{
+    if refusal::SEED_MAX < seed {
+        return refuse(Reason::SeedOutOfRange, 0);
+    }
+    if (refusal::GROUP_MAX as usize) < tags.len() {
+        return refuse(Reason::TooManyTags, 0);
+    }
+    if let First::At(i) = group::first_not_above(tags) {
+        return refuse(Reason::NotAscending, i);
+    }
+    if group::starts_unwired(tags) {
+        return refuse(Reason::UnwiredTag, 0);
+    }
+    parts_under(tags, seed)
+}
+
+// The parts of a group's graph under a seed.
+fn parts_under(tags: &[u32], seed: u32) -> PartsAnswer
+{
+    let n = tags.len();
+    let mut places = [0u32; places::PLACE_CELLS];
+    candidates::candidate_places(tags, n as u32, seed, &mut places);
+    let mut labels = [0u8; MEMBER_CELLS];
+    labels::part_labels(&places, n as u32, &mut labels);
+    let parts = part_count(&labels, n);
+    if has_more_edges(&places, &labels, n) {
+        PartsAnswer::DoesNotServe(parts)
+    } else {
+        PartsAnswer::Serves(parts)
+    }
+}
+
+// How many parts there are: each has one place that is its own label. A place that no tag has is a part by itself.
+fn part_count(labels: &[u8; MEMBER_CELLS], n: usize) -> u32
+{
+    let mut count = 0;
+    let mut v = 0;
+    while v < n {
+        if labels[v] as usize == v {
+            count += 1;
+        }
+        v += 1;
+    }
+    count
+}
+
+// Has any part more edges than points?
+fn has_more_edges(places: &[u32; places::PLACE_CELLS], labels: &[u8; MEMBER_CELLS], n: usize) -> bool
+{
+    let mut v = 0;
+    while v < n {
+        let label = labels[v];
+        if label as usize == v {
+            let points = point_count(labels, n, label);
+            let edges = edge_count(places, labels, n, label);
+            if points < edges {
+                return true;
+            }
+        }
+        v += 1;
+    }
+    false
+}
+
+// How many of the n places have this label.
+fn point_count(labels: &[u8; MEMBER_CELLS], n: usize, label: u8) -> u32
+{
+    let mut count = 0;
+    let mut v = 0;
+    while v < n {
+        if labels[v] == label {
+            count += 1;
+        }
+        v += 1;
+    }
+    count
+}
+
+// How many of the n tags have this label at both places.
+fn edge_count(places: &[u32; places::PLACE_CELLS], labels: &[u8; MEMBER_CELLS], n: usize, label: u8) -> u32
+{
+    let mut count = 0;
+    let mut i = 0;
+    while i < n {
+        let first = places[i] as usize;
+        let second = places[MEMBER_CELLS + i] as usize;
+        if (labels[first] == label) & (labels[second] == label) {
+            count += 1;
+        }
+        i += 1;
+    }
+    count
+}
