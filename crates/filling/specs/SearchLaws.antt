@@ -14,7 +14,7 @@ use Rattle.filling.specs.Filling.{Key, placeBy, chosen, Fills}
 use Rattle.filling.specs.Least.{beginning}
 
 -- The numbers xs, taken one after another, are never in use already: what the search tests.
-Fresh : List ℕ → List ℕ → Type 0
+unfoldable pub Fresh : List ℕ → List ℕ → Type 0
 Fresh used [] = Unit {0}
 Fresh used (x ∷ xs) = (occurs x used ≡ false) × Fresh (x ∷ used) xs
 
@@ -53,8 +53,8 @@ fresh used (x ∷ xs) d off = (off x (occurs-here x xs), fresh (x ∷ used) xs (
 
 -- The sequence fills over the places used so far.
 pub record FillsOver (used : List ℕ) (keys : List Key) (choices : List Bool) : Type 0 where
-  whole : length choices ≡ length keys
-  off : Fresh used (chosen keys choices)
+  pub whole : length choices ≡ length keys
+  pub off : Fresh used (chosen keys choices)
 
 -- An option is the first sequence in an order with a property, or there is none with it.
 abbrev pub FirstOf : (List Bool → List Bool → Type 0) → (List Bool → Type 0) → Option (List Bool) → Type 0
@@ -79,9 +79,13 @@ beginning-map c key used o = go (occurs (placeBy c key) used)
     go false = refl
 
 -- With no place used yet, a sequence that fills also fills over the places used.
-over-of-fills : (keys : List Key) (cs : List Bool) → Fills keys cs → FillsOver [] keys cs
+pub over-of-fills : (keys : List Key) (cs : List Bool) → Fills keys cs → FillsOver [] keys cs
 unfolding occurs
 over-of-fills keys cs f = record { whole = f .whole; off = fresh [] (chosen keys cs) (f .apart) (λ x t. refl) }
+
+-- And the other way.
+pub fills-of-over : (keys : List Key) (cs : List Bool) → FillsOver [] keys cs → Fills keys cs
+fills-of-over keys cs f = record { whole = f .whole; apart = fresh-distinct [] (chosen keys cs) (f .off) }
 
 module _ (Order : List Bool → List Bool → Type 0) where
   -- No key: the empty sequence.
@@ -120,7 +124,4 @@ module _ (Order : List Bool → List Bool → Type 0) where
   -- With no place used yet, what fills over the places used fills.
   pub first-fills : (keys : List Key) (o : Option (List Bool)) → FirstOf Order (FillsOver [] keys) o → FirstOf Order (Fills keys) o
   first-fills keys none h = λ cs f. h cs (over-of-fills keys cs f)
-  first-fills keys (some cs) h = (
-    record { whole = h .0 .whole; apart = fresh-distinct [] (chosen keys cs) (h .0 .off) },
-    λ ds f. h .1 ds (over-of-fills keys ds f),
-  )
+  first-fills keys (some cs) h = (fills-of-over keys cs (h .0), λ ds f. h .1 ds (over-of-fills keys ds f))

@@ -3,3 +3,10 @@ pub mod Graph
 pub mod Part
 pub mod Parts
 pub mod Sequences
+pub mod HowManyLaws
+pub mod Label
+pub mod ConnectedLaws
+pub mod MergeLaws
+pub mod RoomLaws
+pub mod SequencesLaws
+pub mod NumberLaws
