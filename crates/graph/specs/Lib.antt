@@ -10,3 +10,6 @@ pub mod MergeLaws
 pub mod RoomLaws
 pub mod SequencesLaws
 pub mod NumberLaws
+pub mod ListedLaws
+pub mod PartLaws
+pub mod GraphTheorem

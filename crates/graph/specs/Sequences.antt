@@ -1,6 +1,6 @@
 -- All choice sequences, and those of them that fill. Assumes nothing.
 use Prim.Native.Nat.{ℕ, zero, suc}
-use mathlib.Core.Bool.{Bool, true, false, _&&_, cond}
+use mathlib.Core.Bool.{Bool, true, false, not, xor, _&&_}
 use mathlib.Core.List.{List, [], _∷_, _++_, map}
 use lib.Dec.{eqb}
 use lib.ListN.{length}
@@ -15,3 +15,10 @@ allSequences (suc n) = map (λ choices. false ∷ choices) (allSequences n) ++ m
 -- "It fills the group … if the n chosen places are all different": `Fills` as a test.
 unfoldable pub fills : List Key → List Bool → Bool
 fills keys choices = eqb (length choices) (length keys) && distinct (chosen keys choices)
+
+-- Are two choice sequences one?
+unfoldable pub same : List Bool → List Bool → Bool
+same [] [] = true
+same [] (d ∷ ds) = false
+same (c ∷ cs) [] = false
+same (c ∷ cs) (d ∷ ds) = not (xor c d) && same cs ds
