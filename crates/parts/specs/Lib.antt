@@ -1,2 +1,4 @@
 pub mod Counting
 pub mod Answer
+pub mod Tally
+pub mod TallyLaws

@@ -5,7 +5,20 @@ use refusal::MEMBER_CELLS;
 use refusal::Reason;
 use refusal::Refusal;
 ghost use mathlib.Core.Path.{_≡_};
-ghost use mathlib.Core.Bool.{true, false, _&&_};
+ghost use Prim.Native.Nat.{_≤_};
+ghost use lib.ListN.{length};
+ghost use Rattle.refusal.specs.Limits.{groupMax, seedMax};
+ghost use Rattle.refusal.specs.Outcome.{answered, refused};
+ghost use Rattle.refusal.specs.Reason.{reasonNumber};
+ghost use Rattle.lists.specs.First.{first, isSome};
+ghost use Rattle.places.specs.Array.{Candidates, keysOf};
+ghost use Rattle.group.specs.Group.{groupUnder};
+ghost use Rattle.graph.specs.HowMany.{howMany};
+ghost use Rattle.graph.specs.Parts.{points, moreEdges, partsOf};
+ghost use Rattle.parts_condition.specs.Condition.{PartsCondition};
+ghost use Rattle.parts.specs.Answer.{partsOutcome};
+ghost use Rattle.parts.specs.Counting.{countingOf};
+ghost use Rattle.parts.specs.Tally.{labelled, bothLabelled, ownLabel, Graphed};
 
 // Whether the seed serves the group, with the number of parts; or refused.
 pub enum PartsAnswer {
@@ -16,12 +29,15 @@ pub enum PartsAnswer {
 
 // A refusal that names no place, or this one.
 fn refuse(reason: Reason, place: usize) -> PartsAnswer
+    ensures answer { λ r. ⌜ partsOutcome r ≡ refused (reasonNumber reason) place ⌝ }
 {
     PartsAnswer::Refused(Refusal { reason, place })
 }
 
 // The operation "counting parts", for any list and any seed.
 pub fn count_parts(tags: &[u32], seed: u32) -> PartsAnswer
+    ensures answer { λ r. ⌜ partsOutcome r ≡ countingOf (now (tags .entry)) seed ⌝ }
+    ensures condition { λ r. ⌜ PartsCondition (now (tags .entry)) seed (partsOutcome r) ⌝ }
 {
     if refusal::SEED_MAX < seed {
         return refuse(Reason::SeedOutOfRange, 0);
@@ -40,6 +56,8 @@ pub fn count_parts(tags: &[u32], seed: u32) -> PartsAnswer
 
 // The parts of a group's graph under a seed.
 fn parts_under(tags: &[u32], seed: u32) -> PartsAnswer
+    requires { ⌜ (length (now tags) ≤ groupMax) × (seed ≤ seedMax) ⌝ }
+    ensures answer { λ r. ⌜ partsOutcome r ≡ answered (partsOf (length (now (tags .entry))) (groupUnder (now (tags .entry)) seed)) ⌝ }
 {
     let n = tags.len();
     let mut places = [0u32; places::PLACE_CELLS];
@@ -56,11 +74,13 @@ fn parts_under(tags: &[u32], seed: u32) -> PartsAnswer
 
 // How many parts there are: each has one place that is its own label. A place that no tag has is a part by itself.
 fn part_count(labels: &[u8; MEMBER_CELLS], n: usize) -> u32
+    requires { ⌜ n ≤ groupMax ⌝ }
+    ensures answer { λ r. ⌜ r ≡ howMany (ownLabel (now (labels .entry))) (points n) ⌝ }
 {
     let mut count = 0;
     let mut v = 0;
     while v < n {
-        if labels[v] as usize == v {
+        if labels[v] == v as u8 {
             count += 1;
         }
         v += 1;
@@ -70,11 +90,13 @@ fn part_count(labels: &[u8; MEMBER_CELLS], n: usize) -> u32
 
 // Has any part more edges than points?
 fn has_more_edges(places: &[u32; places::PLACE_CELLS], labels: &[u8; MEMBER_CELLS], n: usize) -> bool
+    requires { ⌜ Graphed (now places) (now labels) n ⌝ }
+    ensures answer { λ r. ⌜ r ≡ isSome (first (moreEdges n (keysOf n (now (places .entry)))) n) ⌝ }
 {
     let mut v = 0;
     while v < n {
-        let label = labels[v];
-        if label as usize == v {
+        let label = v as u8;
+        if labels[v] == label {
             let points = point_count(labels, n, label);
             let edges = edge_count(places, labels, n, label);
             if points < edges {
@@ -88,6 +110,8 @@ fn has_more_edges(places: &[u32; places::PLACE_CELLS], labels: &[u8; MEMBER_CELL
 
 // How many of the n places have this label.
 fn point_count(labels: &[u8; MEMBER_CELLS], n: usize, label: u8) -> u32
+    requires { ⌜ n ≤ groupMax ⌝ }
+    ensures answer { λ r. ⌜ r ≡ howMany (labelled (now (labels .entry)) label) (points n) ⌝ }
 {
     let mut count = 0;
     let mut v = 0;
@@ -102,6 +126,8 @@ fn point_count(labels: &[u8; MEMBER_CELLS], n: usize, label: u8) -> u32
 
 // How many of the n tags have this label at both places.
 fn edge_count(places: &[u32; places::PLACE_CELLS], labels: &[u8; MEMBER_CELLS], n: usize, label: u8) -> u32
+    requires { ⌜ (n ≤ groupMax) × Candidates (now places) n ⌝ }
+    ensures answer { λ r. ⌜ r ≡ howMany (bothLabelled (now (labels .entry)) label) (keysOf n (now (places .entry))) ⌝ }
 {
     let mut count = 0;
     let mut i = 0;

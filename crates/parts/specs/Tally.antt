@@ -1,0 +1,30 @@
+-- What the code counts: the points, the edges and the parts by the labels in an array. Assumes nothing.
+use Prim.Native.Nat.{ℕ, _≤_, _<_}
+use mathlib.Core.Path.{_≡_}
+use mathlib.Core.Bool.{Bool, true, false, _&&_}
+use mathlib.Core.List.{List}
+use lib.Dec.{eqb}
+use lib.ListN.{getD}
+use Rattle.refusal.specs.Limits.{groupMax}
+use Rattle.filling.specs.Filling.{Key, placeBy, EachCandidate}
+use Rattle.graph.specs.Label.{labelsOf}
+use Rattle.places.specs.Array.{Candidates, keysOf}
+
+-- Has a place this label?
+abbrev pub labelled : List ℕ → ℕ → ℕ → Bool
+labelled labels label v = eqb (getD labels v 0) label
+
+-- Have both places of a key this label?
+abbrev pub bothLabelled : List ℕ → ℕ → Key → Bool
+bothLabelled labels label key = labelled labels label (placeBy false key) && labelled labels label (placeBy true key)
+
+-- Is a place its own label?
+abbrev pub ownLabel : List ℕ → ℕ → Bool
+ownLabel labels v = labelled labels v v
+
+-- Arrays of the candidate places of n keys on n places and of the labels of all places.
+pub record Graphed (places labels : List ℕ) (n : ℕ) : Type 0 where
+  pub few : n ≤ groupMax
+  pub stated : Candidates places n
+  pub below : EachCandidate (λ x. x < n) (keysOf n places)
+  pub labels-are : labels ≡ labelsOf groupMax (keysOf n places)
