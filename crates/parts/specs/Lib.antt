@@ -2,3 +2,4 @@ pub mod Counting
 pub mod Answer
 pub mod Tally
 pub mod TallyLaws
+pub mod ConditionLaws

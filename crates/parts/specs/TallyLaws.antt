@@ -1,7 +1,7 @@
 -- What is counted by the labels in an array is counted by the parts of the graph. Assumes nothing.
 use Prim.Native.Nat.{ℕ, _+_, _≤_, _<_}
 use mathlib.Core.Path.{_≡_, refl, sym, _∙_, ap}
-use mathlib.Core.Bool.{Bool, true, false, _&&_, and-self, false≢true}
+use mathlib.Core.Bool.{Bool, true, false, _&&_, and-self, not, false≢true}
 use mathlib.Core.List.{List}
 use mathlib.Core.Option.{Option, none, some}
 use native.Mathlib.Decide.{ℕ-discrete}
@@ -17,7 +17,7 @@ use Rattle.filling.specs.Filling.{Key, placeBy}
 use Rattle.filling.specs.Separate.{keyPlace}
 use Rattle.graph.specs.HowMany.{howMany}
 use Rattle.graph.specs.HowManyLaws.{howMany-at, howMany-map, points-same, howMany-empty, howMany-most, howMany-passes, howMany-fails}
-use Rattle.graph.specs.Parts.{points, partPoints, partEdges, moreEdges, lowest}
+use Rattle.graph.specs.Parts.{points, partPoints, partEdges, moreEdges, lowest, partsOf}
 use Rattle.graph.specs.Label.{label}
 use Rattle.graph.specs.ConnectedLaws.{key-label}
 use Rattle.graph.specs.MergeLaws.{pointsWith, edgesWith}
@@ -120,3 +120,9 @@ module _ {places labels : List ℕ} {n : ℕ} (g : Graphed places labels n) wher
       let own = label-at r below ∙ label-again keys v in
       le-ltb (partPoints n keys v) (partEdges keys v)
       (omega (arith, points-labelled keys n v, edges-labelled keys n v, fine r below own, tally-points r, tally-edges r))))
+
+  -- So the answer is what the parts of the graph say.
+  pub parts-counted : (number : ℕ) (more : Bool) → number ≡ howMany (ownLabel labels) (points n)
+      → more ≡ isSome (first (moreEdges n keys) n) → record { serves = not more; number = number } ≡ partsOf n keys
+  unfolding partsOf
+  parts-counted number more n-is m-is = rw (m-is, n-is, tally-parts)

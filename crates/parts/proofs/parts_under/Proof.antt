@@ -1,54 +1,82 @@
+-- `parts::parts_under` meets its contract: the arrays state the group's keys and their labels, by which the parts are counted. Assumes
+-- nothing.
+use Prim.Native.Nat.{ℕ}
+use mathlib.Core.Path.{_≡_, refl, sym, _∙_, ap}
+use mathlib.Core.Bool.{Bool, true, false, not}
+use mathlib.Core.List.{List}
+use lib.ListN.{length}
 use borrow.Author.Needs.{needs}
+use Rattle.refusal.specs.Outcome.{answered}
+use Rattle.group.specs.Group.{groupUnder}
+use Rattle.group.specs.GroupLaws.{group-below}
+use Rattle.places.specs.Array.{Candidates, keysOf}
+use Rattle.candidates.specs.LaidLaws.{group-candidates, group-keys}
+use Rattle.graph.specs.Parts.{partsOf}
+use Rattle.parts.specs.Tally.{Graphed}
+use Rattle.parts.specs.TallyLaws.{parts-counted}
 use Rattle.parts.proofs.parts_under.Statement.{statement}
 use Rattle.parts.proofs.parts_under.Tie as tie
-use Rattle.parts.proofs.parts_under.Reads as reads
-use Rattle.parts.proofs.parts_under.Lts as lts
-use Rattle.candidates.proofs.candidate_places.Reads as candidate-places-reads
-use Rattle.labels.proofs.part_labels.Reads as part-labels-reads
-use Rattle.parts.proofs.has_more_edges.Reads as has-more-edges-reads
-use Rattle.parts.proofs.part_count.Reads as part-count-reads
 
--- src/lib.rt:64:40
-cast-candidate-places : tie.Need-cast-candidate-places
-cast-candidate-places c = search needs
+-- The cells once the places are laid out.
+abbrev entry : tie.After-candidate-places → tie.Start
+entry c = c .before .before .before
 
--- src/lib.rt:64:5
-candidate-places-requires : tie.Need-candidate-places-requires
-candidate-places-requires c κs = search needs
+abbrev cells : tie.After-candidate-places → List ℕ
+cells c = c .candidate-places .last .1 .1 .1 .0
 
--- src/lib.rt:66:34
-cast-part-labels : tie.Need-cast-part-labels
-cast-part-labels c = search needs
+stated : (c : tie.After-candidate-places) → Candidates (cells c) (length (entry c .args .tags .now))
+stated c = group-candidates (entry c .args .tags .now) (entry c .args .seed) _ (entry c .pre .0) refl (c .candidate-places .ensures)
 
--- src/lib.rt:66:5
+keys-are : (c : tie.After-candidate-places)
+    → keysOf (length (entry c .args .tags .now)) (cells c) ≡ groupUnder (entry c .args .tags .now) (entry c .args .seed)
+keys-are c = group-keys (entry c .args .tags .now) (entry c .args .seed) _ (entry c .pre .0) refl (c .candidate-places .ensures)
+
 part-labels-requires : tie.Need-part-labels-requires
-part-labels-requires c κs = search needs
+part-labels-requires c κs =
+    let laid = c .before .before in
+    (entry laid .pre .0, stated laid, refl)
 
--- src/lib.rt:67:9
-part-count-requires : tie.Need-part-count-requires
-part-count-requires c κs = search needs
+graphed : (c : tie.After-part-labels)
+    → (let laid = c .before .before .before in Graphed (cells laid) (c .part-labels .last .1 .1 .0) (length (entry laid .args .tags .now)))
+graphed c =
+    let laid = c .before .before .before in
+    record {
+      few = entry laid .pre .0;
+      stated = stated laid;
+      below = rw (keys-are laid) (group-below (entry laid .args .tags .now) (entry laid .args .seed));
+      labels-are = c .part-labels .ensures;
+    }
 
--- src/lib.rt:68:8
 has-more-edges-requires : tie.Need-has-more-edges-requires
-has-more-edges-requires c κs = search needs
+has-more-edges-requires c κs = graphed (c .before .before .before .before)
 
--- src/lib.rt:58:1
+-- Both counts together.
+counted : (c : tie.After-has-more-edges) (more : Bool) → c .has-more-edges .result ≡ more
+    → (let start = entry (c .before .before .before .before .before .before .before .before) in
+    answered (record { serves = not more; number = c .before .before .before .part-count .result })
+    ≡ answered (partsOf (length (start .args .tags .now)) (groupUnder (start .args .tags .now) (start .args .seed))))
+counted c more e =
+    let parts = c .before .before .before in
+    let labelled = parts .before .before in
+    let laid = labelled .before .before .before in
+    ap answered (parts-counted (graphed labelled) _ more (parts .part-count .ensures) (sym e ∙ c .has-more-edges .ensures)
+    ∙ ap (partsOf (length (entry laid .args .tags .now))) (keys-are laid))
+
 returns : tie.Need-returns
-returns c = search needs
+returns c = counted (c .before) true (c .if1 .taken)
 
--- src/lib.rt:58:1
 returns-2 : tie.Need-returns-2
-returns-2 c = search needs
+returns-2 c = counted (c .before) false (c .if1 .left)
 
 pub parts-under-spec : {M : Type 1} → statement M
 parts-under-spec =
     tie.close
     (tie.spec
-    cast-candidate-places
-    candidate-places-requires
-    cast-part-labels
+    (λ c. search needs)  -- cast-candidate-places
+    (λ c κs. search needs)  -- candidate-places-requires
+    (λ c. search needs)  -- cast-part-labels
     part-labels-requires
-    part-count-requires
+    (λ c κs. search needs)  -- part-count-requires
     has-more-edges-requires
     returns
     returns-2)
