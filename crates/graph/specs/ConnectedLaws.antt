@@ -39,8 +39,14 @@ merged-joins x y p q = go (ℕ-discrete p y) (ℕ-discrete q y)
     go (yes a) (yes b) =
         rw (merged-from x y p a, merged-from x y q b, eq-eqb p q (a ∙ sym b), eq-eqb x x refl)
     go (yes a) (no b) =
-        rw (merged-from x y p a, merged-other x y q b, ne-eqb p q (λ e. b (sym e ∙ a)), ne-eqb y q (λ e. b (sym e)), and-false (eqb p x),
-        eq-eqb p y a)
+        rw (
+          merged-from x y p a,
+          merged-other x y q b,
+          ne-eqb p q (λ e. b (sym e ∙ a)),
+          ne-eqb y q (λ e. b (sym e)),
+          and-false (eqb p x),
+          eq-eqb p y a,
+        )
     go (no a) (yes b) =
         rw (merged-other x y p a, merged-from x y q b, ne-eqb p q (λ e. a (e ∙ b)), eq-eqb y q (sym b), ne-eqb p y a) (each (eqb p x))
       where

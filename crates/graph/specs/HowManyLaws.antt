@@ -102,8 +102,13 @@ pub points-same : (test other : ℕ → Bool) (n : ℕ) → ((v : ℕ) → v < n
 unfolding howMany upTo
 points-same test other zero agree = refl
 points-same test other (suc n) agree =
-    omega (arith, howMany-more test (λ v. v) n, howMany-more other (λ v. v) n, ap one (agree n (omega arith)),
-    points-same test other n (λ v lt. agree v (omega arith)))
+    omega (
+      arith,
+      howMany-more test (λ v. v) n,
+      howMany-more other (λ v. v) n,
+      ap one (agree n (omega arith)),
+      points-same test other n (λ v lt. agree v (omega arith)),
+    )
 
 pub points-none : (test : ℕ → Bool) (n : ℕ) → ((v : ℕ) → v < n → test v ≡ false) → howMany test (points n) ≡ 0
 points-none test n never = points-same test (λ _. false) n never ∙ howMany-none (λ _. false) (points n) (λ _. refl)
@@ -118,19 +123,33 @@ points-change test other (suc n) v lt agree = go (ℕ-discrete v n) (λ below. p
         → howMany test (points (suc n)) + one (other v) ≡ howMany other (points (suc n)) + one (test v)
     go (yes same) lower =
         rw same
-        (omega (arith, howMany-more test (λ u. u) n, howMany-more other (λ u. u) n,
-        points-same test other n (λ u below. agree u (λ e. omega arith))))
+        (omega (
+          arith,
+          howMany-more test (λ u. u) n,
+          howMany-more other (λ u. u) n,
+          points-same test other n (λ u below. agree u (λ e. omega arith)),
+        ))
     go (no different) lower =
-        omega (arith, howMany-more test (λ u. u) n, howMany-more other (λ u. u) n, ap one (agree n (λ e. different (sym e))),
-        lower (omega (arith, different)))
+        omega (
+          arith,
+          howMany-more test (λ u. u) n,
+          howMany-more other (λ u. u) n,
+          ap one (agree n (λ e. different (sym e))),
+          lower (omega (arith, different)),
+        )
 
 -- Tests that differ at two points.
 pub points-change-two : (test other : ℕ → Bool) (n v w : ℕ) → v < n → w < n → v ≢ w
     → ((u : ℕ) → u ≢ v → u ≢ w → test u ≡ other u)
     → howMany test (points n) + (one (other v) + one (other w)) ≡ howMany other (points n) + (one (test v) + one (test w))
 points-change-two test other n v w lv lw different agree =
-    omega (arith, points-change test between n v lv (λ u nv. sym (between-off u nv)), points-change between other n w lw between-other,
-    ap one between-at, ap one (between-off w (λ e. different (sym e))))
+    omega (
+      arith,
+      points-change test between n v lv (λ u nv. sym (between-off u nv)),
+      points-change between other n w lw between-other,
+      ap one between-at,
+      ap one (between-off w (λ e. different (sym e))),
+    )
   where
     between : ℕ → Bool
     between u = cond (eqb u v) (other v) (test u)

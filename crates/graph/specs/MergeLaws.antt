@@ -48,8 +48,12 @@ module _ (key : Key) (keys : List Key) where
     where
       go : (v : ℕ) → Dec (label keys v ≡ y) → one (eqb (merged x y (label keys v)) x) ≡ one (eqb (label keys v) x) + one (eqb (label keys v) y)
       go v (yes e) =
-          omega (arith, one-same (merged x y (label keys v)) x (merged-from x y (label keys v) e),
-          one-other (label keys v) x (λ z. n (sym z ∙ e)), one-same (label keys v) y e)
+          omega (
+            arith,
+            one-same (merged x y (label keys v)) x (merged-from x y (label keys v) e),
+            one-other (label keys v) x (λ z. n (sym z ∙ e)),
+            one-same (label keys v) y e,
+          )
       go v (no m) =
           omega (arith, ap (λ (z : ℕ). one (eqb z x)) (merged-other x y (label keys v) m), one-other (label keys v) y m)
 
@@ -112,8 +116,13 @@ points-out n r le = points-none (λ v. eqb v r) n (λ v lt. ne-eqb v r (λ e. om
 
 pub points-once : (n r : ℕ) → r < n → howMany (λ v. eqb v r) (points n) ≡ 1
 points-once n r lt =
-    omega (arith, points-change (λ v. eqb v r) (λ _. false) n r lt (λ v m. ne-eqb v r m), one-same r r refl, one-false {b = false} refl,
-    howMany-none (λ (_ : ℕ). false) (points n) (λ _. refl))
+    omega (
+      arith,
+      points-change (λ v. eqb v r) (λ _. false) n r lt (λ v m. ne-eqb v r m),
+      one-same r r refl,
+      one-false {b = false} refl,
+      howMany-none (λ (_ : ℕ). false) (points n) (λ _. refl),
+    )
 
 -- Without keys each point is a part of its own.
 alone-most : (n r : ℕ) → pointsWith n [] r ≤ 1

@@ -50,18 +50,46 @@ exact-back n key keys used choice exact r = go (which x y r)
 
     go : Which x y r → within (key ∷ keys) used r + edgesWith (key ∷ keys) r ≡ pointsWith n (key ∷ keys) r
     go (only e) =
-        omega (arith, exact r, within-more keys used taken r, ap (λ (z : ℕ). one (eqb z r)) (taken-same keys key choice e),
-        inside key keys used r e, inside key keys (firsts keys) r e, inside key keys (points n) r e, edges-in key keys r)
+        omega (
+          arith,
+          exact r,
+          within-more keys used taken r,
+          ap (λ (z : ℕ). one (eqb z r)) (taken-same keys key choice e),
+          inside key keys used r e,
+          inside key keys (firsts keys) r e,
+          inside key keys (points n) r e,
+          edges-in key keys r,
+        )
     go (left m e) =
         rw e
-        (omega (arith, exact x, exact y, within-more keys used taken x, within-more keys used taken y, taken-apart keys key choice m,
-        join key keys used m, join key keys (firsts keys) m, join key keys (points n) m, edges-in key keys x, one-same x x refl))
+        (omega (
+          arith,
+          exact x,
+          exact y,
+          within-more keys used taken x,
+          within-more keys used taken y,
+          taken-apart keys key choice m,
+          join key keys used m,
+          join key keys (firsts keys) m,
+          join key keys (points n) m,
+          edges-in key keys x,
+          one-same x x refl,
+        ))
     go (right m e) =
         rw e
         (omega (arith, gone key keys used m, gone key keys (firsts keys) m, gone key keys (points n) m, edges-in key keys y, one-other x y m))
     go (none m a b) =
-        omega (arith, exact r, within-more keys used taken r, taken-other keys key choice r a b, apart key keys used r a b,
-        apart key keys (firsts keys) r a b, apart key keys (points n) r a b, edges-in key keys r, one-other x r (λ z. a (sym z)))
+        omega (
+          arith,
+          exact r,
+          within-more keys used taken r,
+          taken-other keys key choice r a b,
+          apart key keys used r a b,
+          apart key keys (firsts keys) r a b,
+          apart key keys (points n) r a b,
+          edges-in key keys r,
+          one-other x r (λ z. a (sym z)),
+        )
 
 -- Where a sequence fills and all places are taken in the end, it is so from the beginning.
 fills-exact : (n : ℕ) (keys : List Key) (used : List ℕ) (cs : List Bool) → distinct used ≡ true → Under n used
@@ -151,8 +179,13 @@ module _ (n : ℕ) (key : Key) (keys : List Key) (used : List ℕ) (below : Each
       → spares n (key ∷ keys) used ≡ spares n keys (placeBy choice key ∷ used)
   unfolding label
   spares-join choice m free =
-      omega (arith, points-change-two (spare (key ∷ keys) used) (spare keys (placeBy choice key ∷ used)) n x y x-below y-below m other,
-      at-y, at-x, two choice free)
+      omega (
+        arith,
+        points-change-two (spare (key ∷ keys) used) (spare keys (placeBy choice key ∷ used)) n x y x-below y-below m other,
+        at-y,
+        at-x,
+        two choice free,
+      )
     where
       x : ℕ
       x = label keys (placeBy false key)
@@ -193,14 +226,22 @@ module _ (n : ℕ) (key : Key) (keys : List Key) (used : List ℕ) (below : Each
           let a = placeBy false key in
           let sum : within keys (a ∷ used) y ≡ within keys used x + within keys used y =
           omega (arith, within-more keys used a y, one-other x y m) in
-          omega (arith, one-false (spare-used keys (a ∷ used) x (omega (arith, within-more keys used a x, one-same x x refl))),
-          ap one (spare-root keys (a ∷ used) y root-y), ap (λ (z : ℕ). one (eqb z 0)) sum)
+          omega (
+            arith,
+            one-false (spare-used keys (a ∷ used) x (omega (arith, within-more keys used a x, one-same x x refl))),
+            ap one (spare-root keys (a ∷ used) y root-y),
+            ap (λ (z : ℕ). one (eqb z 0)) sum,
+          )
       two true free =
           let b = placeBy true key in
           let sum : within keys (b ∷ used) x ≡ within keys used x + within keys used y =
           omega (arith, within-more keys used b x, one-other y x (λ e. m (sym e))) in
-          omega (arith, one-false (spare-used keys (b ∷ used) y (omega (arith, within-more keys used b y, one-same y y refl))),
-          ap one (spare-root keys (b ∷ used) x root-x), ap (λ (z : ℕ). one (eqb z 0)) sum)
+          omega (
+            arith,
+            one-false (spare-used keys (b ∷ used) y (omega (arith, within-more keys used b y, one-same y y refl))),
+            ap one (spare-root keys (b ∷ used) x root-x),
+            ap (λ (z : ℕ). one (eqb z 0)) sum,
+          )
 
   -- A key inside a part: one label more is spare than without it.
   spares-inside : (choice : Bool) → label keys (placeBy false key) ≡ label keys (placeBy true key)
@@ -281,22 +322,42 @@ exact-sequences n (key ∷ keys) used exact d under below = go (ℕ-discrete x y
     go : Dec (x ≡ y) → Rest → sequencesOver used (key ∷ keys) ≡ 2 ^ spares n (key ∷ keys) used
     go (yes e) rest =
         rw (spares-inside n key keys used below false e free)
-        (omega (arith, sequences-key used key keys, put false rest free (after false),
-        put true rest (ap (within keys used) (sym e) ∙ free) (after true), ap (λ (z : ℕ). 2 ^ z) alike, doubled))
+        (omega (
+          arith,
+          sequences-key used key keys,
+          put false rest free (after false),
+          put true rest (ap (within keys used) (sym e) ∙ free) (after true),
+          ap (λ (z : ℕ). 2 ^ z) alike,
+          doubled,
+        ))
       where
         here : within keys used x + (1 + edgesWith keys x) ≡ pointsWith n keys x
         here =
-            omega (arith, exact x, inside key keys used x e, inside key keys (firsts keys) x e, inside key keys (points n) x e,
-            edges-in key keys x, one-same x x refl)
+            omega (
+              arith,
+              exact x,
+              inside key keys used x e,
+              inside key keys (firsts keys) x e,
+              inside key keys (points n) x e,
+              edges-in key keys x,
+              one-same x x refl,
+            )
 
         free : within keys used x ≡ 0
         free = omega (arith, here, points-most n keys x)
 
         after : (choice : Bool) → Exact n keys (placeBy choice key ∷ used)
         after choice r =
-            omega (arith, exact r, within-more keys used (placeBy choice key) r,
-            ap (λ (z : ℕ). one (eqb z r)) (taken-same keys key choice e), inside key keys used r e, inside key keys (firsts keys) r e,
-            inside key keys (points n) r e, edges-in key keys r)
+            omega (
+              arith,
+              exact r,
+              within-more keys used (placeBy choice key) r,
+              ap (λ (z : ℕ). one (eqb z r)) (taken-same keys key choice e),
+              inside key keys used r e,
+              inside key keys (firsts keys) r e,
+              inside key keys (points n) r e,
+              edges-in key keys r,
+            )
 
         alike : spares n keys (b ∷ used) ≡ spares n keys (a ∷ used)
         alike = omega (arith, spares-inside n key keys used below false e free, spares-inside n key keys used below true e free)
@@ -307,19 +368,37 @@ exact-sequences n (key ∷ keys) used exact d under below = go (ℕ-discrete x y
       where
         both : within keys used x + within keys used y + (1 + edgesWith keys x + edgesWith keys y) ≡ pointsWith n keys x + pointsWith n keys y
         both =
-            omega (arith, exact x, join key keys used m, join key keys (firsts keys) m, join key keys (points n) m, edges-in key keys x,
-            one-same x x refl)
+            omega (
+              arith,
+              exact x,
+              join key keys used m,
+              join key keys (firsts keys) m,
+              join key keys (points n) m,
+              edges-in key keys x,
+              one-same x x refl,
+            )
 
         others : (r : ℕ) → r ≢ x → r ≢ y → within keys used r + edgesWith keys r ≡ pointsWith n keys r
         others r nx ny =
-            omega (arith, exact r, apart key keys used r nx ny, apart key keys (firsts keys) r nx ny, apart key keys (points n) r nx ny,
-            edges-in key keys r, one-other x r (λ z. nx (sym z)))
+            omega (
+              arith,
+              exact r,
+              apart key keys used r nx ny,
+              apart key keys (firsts keys) r nx ny,
+              apart key keys (points n) r nx ny,
+              edges-in key keys r,
+              one-other x r (λ z. nx (sym z)),
+            )
 
         on : Dec (within keys used x + edgesWith keys x < pointsWith n keys x) → sequencesOver used (key ∷ keys) ≡ 2 ^ spares n (key ∷ keys) used
         on (yes some) =
             rw (spares-join n key keys used below false m free)
-            (omega (arith, sequences-key used key keys, put false rest free (λ r. at r (which x y r)),
-            shut true (λ room. omega (arith, room y, both, points-most n keys x, within-more keys used b y, one-same y y refl))))
+            (omega (
+              arith,
+              sequences-key used key keys,
+              put false rest free (λ r. at r (which x y r)),
+              shut true (λ room. omega (arith, room y, both, points-most n keys x, within-more keys used b y, one-same y y refl)),
+            ))
           where
             free : within keys used x ≡ 0
             free = omega (arith, some, points-most n keys x)
@@ -331,8 +410,12 @@ exact-sequences n (key ∷ keys) used exact d under below = go (ℕ-discrete x y
             at r (none _ nx ny) = omega (arith, others r nx ny, within-more keys used a r, one-other x r (λ z. nx (sym z)))
         on (no full) =
             rw (spares-join n key keys used below true m free)
-            (omega (arith, sequences-key used key keys, put true rest free (λ r. at r (which x y r)),
-            shut false (λ room. omega (arith, room x, full, within-more keys used a x, one-same x x refl))))
+            (omega (
+              arith,
+              sequences-key used key keys,
+              put true rest free (λ r. at r (which x y r)),
+              shut false (λ room. omega (arith, room x, full, within-more keys used a x, one-same x x refl)),
+            ))
           where
             free : within keys used y ≡ 0
             free = omega (arith, full, both, points-most n keys y)

@@ -70,14 +70,18 @@ module _ (keys : List Key) where
   unfolding partPoints
   part-points {n} {points} part =
       listed-length (connected keys (part .member)) n points (part .points-once)
-      (λ v. (λ t. let (lt, walk) = part .points-are v .0 t in (lt, connected-is keys (part .member) v .1 walk),
-      λ (lt, e). part .points-are v .1 (lt, connected-is keys (part .member) v .0 e)))
+      (λ v. (
+        λ t. let (lt, walk) = part .points-are v .0 t in (lt, connected-is keys (part .member) v .1 walk),
+        λ (lt, e). part .points-are v .1 (lt, connected-is keys (part .member) v .0 e),
+      ))
 
   pub part-edges : {n : ℕ} {points edges : List ℕ} (part : Part n keys points edges) → length edges ≡ partEdges keys (part .member)
   part-edges {n} {points} {edges} part =
       listed-length (edgeOf (part .member)) (length keys) edges (part .edges-once)
-      (λ i. (λ t. let (lt, walks) = part .edges-are i .0 t in (lt, edge-walks (part .member) i .1 walks),
-      λ (lt, e). part .edges-are i .1 (lt, edge-walks (part .member) i .0 e)))
+      (λ i. (
+        λ t. let (lt, walks) = part .edges-are i .0 t in (lt, edge-walks (part .member) i .1 walks),
+        λ (lt, e). part .edges-are i .1 (lt, edge-walks (part .member) i .0 e),
+      ))
       ∙ edges-counted (part .member)
 
   -- Each point has a part.
@@ -115,10 +119,15 @@ module _ (keys : List Key) where
     unfolding partPoints
     serves-parts = (
       λ e points edges part.
-        omega (arith, part-points part, part-edges part, served e (part .member) (part .member-below)),
+          omega (arith, part-points part, part-edges part, served e (part .member) (part .member-below)),
       λ no-part. serving (λ v lt.
-        omega (arith, passing-length (connected keys v) n, passing-length (edgeOf v) (length keys), edges-counted v,
-        no-part _ _ (part-of n v lt))),
+          omega (
+            arith,
+            passing-length (connected keys v) n,
+            passing-length (edgeOf v) (length keys),
+            edges-counted v,
+            no-part _ _ (part-of n v lt),
+          )),
     )
 
     -- A part's points and edges are those with its label.
@@ -131,8 +140,12 @@ module _ (keys : List Key) where
     edges-labelled v =
         howMany-at (λ key. connected keys v (placeBy false key) && connected keys v (placeBy true key))
         (λ key. eqb (label keys (placeBy false key)) (label keys v)) (0, 0) keys (λ i lt.
-        rw (connected-label keys v (keyPlace keys i false), connected-label keys v (keyPlace keys i true), ← key-label keys i lt,
-        and-self (eqb (label keys v) (label keys (keyPlace keys i false))))
+        rw (
+          connected-label keys v (keyPlace keys i false),
+          connected-label keys v (keyPlace keys i true),
+          ← key-label keys i lt,
+          and-self (eqb (label keys v) (label keys (keyPlace keys i false))),
+        )
         (eqb-turned (label keys v) (label keys (keyPlace keys i false))))
         ∙ sym (howMany-map (placeBy false) (λ u. eqb (label keys u) (label keys v)) keys)
 
@@ -249,9 +262,12 @@ module _ (n : ℕ) (keys : List Key) where
   roots-stand below =
       stand-for (root keys)
       (λ u v ru rv same. sym (eqb-true (label keys u) u ru) ∙ same ∙ eqb-true (label keys v) v rv)
-      (λ v lt.
-        (label keys v, label-below n keys below v lt, eq-eqb (label keys (label keys v)) (label keys v) (label-again keys v),
-        label-again keys v))
+      (λ v lt. (
+        label keys v,
+        label-below n keys below v lt,
+        eq-eqb (label keys (label keys v)) (label keys v) (label-again keys v),
+        label-again keys v,
+      ))
 
   pub lowest-roots : EachCandidate (λ x. x < n) keys → howMany (lowest keys) (points n) ≡ howMany (root keys) (points n)
   lowest-roots below =

@@ -76,8 +76,11 @@ pub howMany-absent : (places : List ℕ) (r : ℕ) → occurs r places ≡ false
 unfolding howMany
 howMany-absent [] r n = refl
 howMany-absent (v ∷ places) r n =
-    omega (arith, one-other v r (λ e. occurs-not r (v ∷ places) (rw e (occurs-here r places)) n),
-    howMany-absent places r (not-eq-not .0 (λ t. occurs-not r (v ∷ places) (occurs-there r v places t) n)))
+    omega (
+      arith,
+      one-other v r (λ e. occurs-not r (v ∷ places) (rw e (occurs-here r places)) n),
+      howMany-absent places r (not-eq-not .0 (λ t. occurs-not r (v ∷ places) (occurs-there r v places t) n)),
+    )
 
 pub howMany-present : (places : List ℕ) (r : ℕ) → distinct places ≡ true → occurs r places ≡ true → howMany (λ v. eqb v r) places ≡ 1
 unfolding howMany occurs
@@ -154,24 +157,51 @@ room-fills n (key ∷ keys) used room = go (ℕ-discrete x y) (room-fills n keys
       where
         here : within keys used x + (1 + edgesWith keys x) ≤ pointsWith n keys x
         here =
-            omega (arith, room x, inside key keys used x e, inside key keys (firsts keys) x e, inside key keys (points n) x e,
-            edges-in key keys x, one-same x x refl)
+            omega (
+              arith,
+              room x,
+              inside key keys used x e,
+              inside key keys (firsts keys) x e,
+              inside key keys (points n) x e,
+              edges-in key keys x,
+              one-same x x refl,
+            )
 
         after : Room n keys (a ∷ used)
         after r =
-            omega (arith, room r, inside key keys used r e, inside key keys (firsts keys) r e, inside key keys (points n) r e,
-            edges-in key keys r, within-more keys used a r)
+            omega (
+              arith,
+              room r,
+              inside key keys used r e,
+              inside key keys (firsts keys) r e,
+              inside key keys (points n) r e,
+              edges-in key keys r,
+              within-more keys used a r,
+            )
     go (no m) rest = on (decLt (within keys used x + edgesWith keys x) (pointsWith n keys x))
       where
         both : within keys used x + within keys used y + (1 + edgesWith keys x + edgesWith keys y) ≤ pointsWith n keys x + pointsWith n keys y
         both =
-            omega (arith, room x, join key keys used m, join key keys (firsts keys) m, join key keys (points n) m, edges-in key keys x,
-            one-same x x refl)
+            omega (
+              arith,
+              room x,
+              join key keys used m,
+              join key keys (firsts keys) m,
+              join key keys (points n) m,
+              edges-in key keys x,
+              one-same x x refl,
+            )
 
         others : (r : ℕ) → r ≢ x → r ≢ y → within keys used r + edgesWith keys r ≤ pointsWith n keys r
         others r nx ny =
-            omega (arith, room r, apart key keys used r nx ny, apart key keys (firsts keys) r nx ny, apart key keys (points n) r nx ny,
-            edges-in key keys r)
+            omega (
+              arith,
+              room r,
+              apart key keys used r nx ny,
+              apart key keys (firsts keys) r nx ny,
+              apart key keys (points n) r nx ny,
+              edges-in key keys r,
+            )
 
         on : Dec (within keys used x + edgesWith keys x < pointsWith n keys x) → (cs : List Bool) × FillsOver used (key ∷ keys) cs
         on (yes some) = put false (omega (arith, points-most n keys x)) (λ r. at r (which x y r)) rest
@@ -206,17 +236,44 @@ room-back n key keys used choice room r = go (which x y r)
 
     go : Which x y r → within (key ∷ keys) used r + edgesWith (key ∷ keys) r ≤ pointsWith n (key ∷ keys) r
     go (only e) =
-        omega (arith, room r, within-more keys used taken r, ap (λ (z : ℕ). one (eqb z r)) (taken-same keys key choice e),
-        inside key keys used r e, inside key keys (firsts keys) r e, inside key keys (points n) r e, edges-in key keys r)
+        omega (
+          arith,
+          room r,
+          within-more keys used taken r,
+          ap (λ (z : ℕ). one (eqb z r)) (taken-same keys key choice e),
+          inside key keys used r e,
+          inside key keys (firsts keys) r e,
+          inside key keys (points n) r e,
+          edges-in key keys r,
+        )
     go (left m e) =
         rw e
-        (omega (arith, room x, room y, within-more keys used taken x, within-more keys used taken y, taken-apart keys key choice m,
-        join key keys used m, join key keys (firsts keys) m, join key keys (points n) m, edges-in key keys x, one-same x x refl))
+        (omega (
+          arith,
+          room x,
+          room y,
+          within-more keys used taken x,
+          within-more keys used taken y,
+          taken-apart keys key choice m,
+          join key keys used m,
+          join key keys (firsts keys) m,
+          join key keys (points n) m,
+          edges-in key keys x,
+          one-same x x refl,
+        ))
     go (right m e) =
         rw e (omega (arith, gone key keys used m, gone key keys (firsts keys) m, edges-in key keys y, one-other x y m))
     go (none m a b) =
-        omega (arith, room r, within-more keys used taken r, apart key keys used r a b, apart key keys (firsts keys) r a b,
-        apart key keys (points n) r a b, edges-in key keys r, one-other x r (λ z. a (sym z)))
+        omega (
+          arith,
+          room r,
+          within-more keys used taken r,
+          apart key keys used r a b,
+          apart key keys (firsts keys) r a b,
+          apart key keys (points n) r a b,
+          edges-in key keys r,
+          one-other x r (λ z. a (sym z)),
+        )
 
 -- Where a sequence fills over different places in use, there is room.
 pub fills-room : (n : ℕ) (keys : List Key) (used : List ℕ) (cs : List Bool) → distinct used ≡ true → Under n used

@@ -26,17 +26,29 @@ all-length (suc n) =
     let css = allSequences n in
     let front = map (λ choices. false ∷ choices) css in
     let back = map (λ choices. true ∷ choices) css in
-    omega (arith, length-append front back, length-map css (λ choices. false ∷ choices), length-map css (λ choices. true ∷ choices),
-    all-length n, two-pow-succ n)
+    omega (
+      arith,
+      length-append front back,
+      length-map css (λ choices. false ∷ choices),
+      length-map css (λ choices. true ∷ choices),
+      all-length n,
+      two-pow-succ n,
+    )
 
 -- Of the sequences that begin with 0 and those that begin with 1, one kind alone can be a given one.
 begins : (c : Bool) (cs : List Bool) (css : List (List Bool))
     → howMany (λ ds. same (c ∷ cs) (false ∷ ds)) css + howMany (λ ds. same (c ∷ cs) (true ∷ ds)) css ≡ howMany (same cs) css
 unfolding same xor
-begins false cs css = omega (arith, howMany-same (λ ds. same (false ∷ cs) (false ∷ ds)) (same cs) css (λ _. refl),
-    howMany-none (λ ds. same (false ∷ cs) (true ∷ ds)) css (λ _. refl))
-begins true cs css = omega (arith, howMany-same (λ ds. same (true ∷ cs) (true ∷ ds)) (same cs) css (λ _. refl),
-    howMany-none (λ ds. same (true ∷ cs) (false ∷ ds)) css (λ _. refl))
+begins false cs css = omega (
+  arith,
+  howMany-same (λ ds. same (false ∷ cs) (false ∷ ds)) (same cs) css (λ _. refl),
+  howMany-none (λ ds. same (false ∷ cs) (true ∷ ds)) css (λ _. refl),
+)
+begins true cs css = omega (
+  arith,
+  howMany-same (λ ds. same (true ∷ cs) (true ∷ ds)) (same cs) css (λ _. refl),
+  howMany-none (λ ds. same (true ∷ cs) (false ∷ ds)) css (λ _. refl),
+)
 
 -- Each sequence of n choices stands among them once, and no other does.
 pub all-once : (n : ℕ) (cs : List Bool) → howMany (same cs) (allSequences n) ≡ one (eqb (length cs) n)
@@ -47,13 +59,24 @@ all-once (suc n) [] =
     let css = allSequences n in
     let never : (c : Bool) → howMany (same []) (map (λ ds. c ∷ ds) css) ≡ 0 =
     λ c. howMany-map (λ ds. c ∷ ds) (same []) css ∙ howMany-none _ css (λ _. refl) in
-    omega (arith, howMany-append (same []) (map (λ ds. false ∷ ds) css) (map (λ ds. true ∷ ds) css), never false, never true,
-    one-false (eqb·zero-suc n))
+    omega (
+      arith,
+      howMany-append (same []) (map (λ ds. false ∷ ds) css) (map (λ ds. true ∷ ds) css),
+      never false,
+      never true,
+      one-false (eqb·zero-suc n),
+    )
 all-once (suc n) (c ∷ cs) =
     let css = allSequences n in
-    omega (arith, howMany-append (same (c ∷ cs)) (map (λ ds. false ∷ ds) css) (map (λ ds. true ∷ ds) css),
-    howMany-map (λ ds. false ∷ ds) (same (c ∷ cs)) css, howMany-map (λ ds. true ∷ ds) (same (c ∷ cs)) css,
-    begins c cs css, all-once n cs, ap one (eqb·suc-suc (length cs) n))
+    omega (
+      arith,
+      howMany-append (same (c ∷ cs)) (map (λ ds. false ∷ ds) css) (map (λ ds. true ∷ ds) css),
+      howMany-map (λ ds. false ∷ ds) (same (c ∷ cs)) css,
+      howMany-map (λ ds. true ∷ ds) (same (c ∷ cs)) css,
+      begins c cs css,
+      all-once n cs,
+      ap one (eqb·suc-suc (length cs) n),
+    )
 
 -- Two sequences are one exactly where the test says so.
 same-itself : (cs : List Bool) → same cs cs ≡ true
@@ -214,9 +237,14 @@ unfolding allSequences
 sequences-key used key keys =
     let test = fillsOver used (key ∷ keys) in
     let css = allSequences (length keys) in
-    omega (arith, howMany-append test (map (λ cs. false ∷ cs) css) (map (λ cs. true ∷ cs) css),
-    howMany-map (λ cs. false ∷ cs) test css, howMany-map (λ cs. true ∷ cs) test css, beginning-is used key keys false,
-    beginning-is used key keys true)
+    omega (
+      arith,
+      howMany-append test (map (λ cs. false ∷ cs) css) (map (λ cs. true ∷ cs) css),
+      howMany-map (λ cs. false ∷ cs) test css,
+      howMany-map (λ cs. true ∷ cs) test css,
+      beginning-is used key keys false,
+      beginning-is used key keys true,
+    )
 
 -- Where nothing fills there are none.
 sequences-zero : (used : List ℕ) (keys : List Key) → ((cs : List Bool) → FillsOver used keys cs → ⊥) → sequencesOver used keys ≡ 0

@@ -46,9 +46,5 @@ fn merge(labels: &mut [u8; MEMBER_CELLS], into: u8, from: u8)
 fn merged(label: u8, into: u8, from: u8) -> u8
     ensures answer { λ r. ⌜ r ≡ merged into from label ⌝ }
 {
-    if label == from {
-        into
-    } else {
-        label
-    }
+    if label == from { into } else { label }
 }

@@ -88,8 +88,11 @@ module _ {places labels : List ℕ} {n : ℕ} (g : Graphed places labels n) wher
   tally-edges : (r : ℕ) → howMany (bothLabelled labels r) keys ≡ edgesWith keys r
   tally-edges r =
       howMany-at (bothLabelled labels r) (λ key. eqb (label keys (placeBy false key)) r) (0, 0) keys (λ i lt.
-      rw (label-at (keyPlace keys i false) (g .below i lt false), label-at (keyPlace keys i true) (g .below i lt true),
-      ← key-label keys i lt) (and-self (eqb (label keys (keyPlace keys i false)) r)))
+      rw (
+        label-at (keyPlace keys i false) (g .below i lt false),
+        label-at (keyPlace keys i true) (g .below i lt true),
+        ← key-label keys i lt,
+      ) (and-self (eqb (label keys (keyPlace keys i false)) r)))
       ∙ sym (howMany-map (placeBy false) (λ v. eqb (label keys v) r) keys)
 
   -- A place that is its own label stands for a part: there are as many as parts.

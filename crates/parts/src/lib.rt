@@ -89,7 +89,11 @@ fn part_count(labels: &[u8; MEMBER_CELLS], n: usize) -> u32
 }
 
 // Has any part more edges than points?
-fn has_more_edges(places: &[u32; places::PLACE_CELLS], labels: &[u8; MEMBER_CELLS], n: usize) -> bool
+fn has_more_edges(
+    places: &[u32; places::PLACE_CELLS],
+    labels: &[u8; MEMBER_CELLS],
+    n: usize,
+) -> bool
     requires { ⌜ Graphed (now places) (now labels) n ⌝ }
     ensures answer { λ r. ⌜ r ≡ isSome (first (moreEdges n (keysOf n (now (places .entry)))) n) ⌝ }
 {
@@ -125,7 +129,12 @@ fn point_count(labels: &[u8; MEMBER_CELLS], n: usize, label: u8) -> u32
 }
 
 // How many of the n tags have this label at both places.
-fn edge_count(places: &[u32; places::PLACE_CELLS], labels: &[u8; MEMBER_CELLS], n: usize, label: u8) -> u32
+fn edge_count(
+    places: &[u32; places::PLACE_CELLS],
+    labels: &[u8; MEMBER_CELLS],
+    n: usize,
+    label: u8,
+) -> u32
     requires { ⌜ (n ≤ groupMax) × Candidates (now places) n ⌝ }
     ensures answer { λ r. ⌜ r ≡ howMany (bothLabelled (now (labels .entry)) label) (keysOf n (now (places .entry))) ⌝ }
 {

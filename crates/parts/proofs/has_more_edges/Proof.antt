@@ -31,9 +31,11 @@ returns c =
 loop-again : tie.Need-loop-again Inv-loop μ-loop
 loop-again c =
     let at = c .before .before .before in
-    let a = at .before .args in
-    (omega arith, fine-turn (a .places .now) (a .labels .now) (a .n) (at .loop .v) (at .loop .inv .1)
-    (⊎-elim (λ w own. omega (arith, w .1 .ensures, w .2 .ensures, w .3 .left)) (λ w own. absurd (w .left own)) (c .if1 .came)))
+    let a = at .before .args in (
+      omega arith,
+      fine-turn (a .places .now) (a .labels .now) (a .n) (at .loop .v) (at .loop .inv .1)
+          (⊎-elim (λ w own. omega (arith, w .1 .ensures, w .2 .ensures, w .3 .left)) (λ w own. absurd (w .left own)) (c .if1 .came)),
+    )
 
 returns-2 : tie.Need-returns-2 Inv-loop μ-loop
 returns-2 c =
