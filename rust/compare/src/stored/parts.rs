@@ -12,7 +12,8 @@ const ALONE: [u32; 32] = [
 
 pub fn write(output: &mut Output) {
     let ascending: Vec<u32> = (1..=33).collect();
-    let cases: [(&[u32], u32); 47] = [
+    let from_0 = [&[0], &ascending[1..]].concat();
+    let cases: [(&[u32], u32); 48] = [
         // Worked values 1 to 3, the empty group, one tag.
         (&[1, 2], 0),
         (&[1, 3], 0),
@@ -53,6 +54,8 @@ pub fn write(output: &mut Output) {
         (&ascending[..31], 65_535),
         (&ascending, 65_535),
         (&ascending, 65_536),
+        (&from_0, 0),
+        (&from_0[..32], 0),
         // Seeds.
         (&[1, 3], 65_535),
         (&[1, 3], 65_536),
@@ -68,7 +71,6 @@ pub fn write(output: &mut Output) {
         (&[0, 13, 13], 0),
         (&[5; 33], 0),
         (&[5; 32], 0),
-        (&[0; 33], 0),
     ];
     for (tags, seed) in cases {
         count(output, tags, seed);
