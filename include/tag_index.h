@@ -1,6 +1,6 @@
 /* The C boundary of the two-choice tag index: building, by one call or by planning and writing,
- * checking, the strict check, lookup and placing a group; and the index without tags: building,
- * checking and lookup.
+ * checking, the strict check, lookup, placing a group and counting its parts under a seed; and the
+ * index without tags: building, checking and lookup.
  *
  * The functions stand in libtag_index.a, for x86-64: `rt staticlib tag_index` writes it to
  * target/staticlib/.
@@ -8,9 +8,9 @@
  * What a caller owes, and nothing else: each pointer and length is a valid range of memory, the
  * pointer not null even where the length is 0, `word` a cell and `plan` TAG_INDEX_PLAN_CELLS of
  * them; what is written overlaps nothing else; and nothing else writes these ranges and cells during
- * the call. The bytes may be anything, the lengths, the tags, the limit and the numbers of a plan
- * too. A function reads and writes only inside the ranges given, and its answer depends on nothing
- * but the arguments.
+ * the call. The bytes may be anything, the lengths, the tags, the limit, the seed and the numbers of
+ * a plan too. A function reads and writes only inside the ranges given, and its answer depends on
+ * nothing but the arguments.
  *
  * Each answer is one 64-bit number. Below 2^32 it is what each function says; from 2^32 on it is a
  * refusal, number × 2^32 + place, to be taken apart by the functions below.
@@ -51,11 +51,12 @@ extern "C" {
  * 1 and 3 belong to "place of one tag" and never come from these functions. More can come. */
 enum tag_index_reason {
     TAG_INDEX_SIZE_OUT_OF_RANGE = 1,
-    TAG_INDEX_SEED_OUT_OF_RANGE = 2,         /* group: its seed in the plan is above 65,535 */
+    TAG_INDEX_SEED_OUT_OF_RANGE = 2,         /* group: its seed in the plan is above 65,535; 0 from
+                                              * counting parts, for the seed given */
     TAG_INDEX_CHOICE_OUT_OF_RANGE = 3,
     TAG_INDEX_LIMIT_OUT_OF_RANGE = 4,        /* L is not 1 to 65,536 */
-    TAG_INDEX_TOO_MANY_TAGS = 5,             /* above 4,096 tags, above 32 from placing, or a text
-                                              * above 65,527 bytes */
+    TAG_INDEX_TOO_MANY_TAGS = 5,             /* above 4,096 tags, above 32 from placing and counting
+                                              * parts, or a text above 65,527 bytes */
     TAG_INDEX_NOT_ASCENDING = 6,             /* index: this tag is not above the one before */
     TAG_INDEX_NO_SEED = 7,                   /* group: no seed below L serves it; 0 from placing;
                                               * without tags: none has a word for it */
@@ -132,6 +133,15 @@ uint64_t tag_index_lookup(const uint8_t *image, size_t image_length, uint32_t ta
  * as it was. */
 uint64_t tag_index_place_group(const uint32_t *tags, size_t tags_length, uint32_t limit,
                                uint32_t *word);
+
+/* Tests a seed for a group, its tags in ascending order, by the connected parts of its graph: the n
+ * places are the points, also those that no tag has, and each of the n tags is an edge between its two
+ * places. The seed serves exactly if no part has more edges than points. Then the sequences of choices
+ * that give each tag a place of its own are 2 to the power of the number of parts.
+ *
+ * Answers 2 × the number of parts, plus 1 if the seed serves, 1 to 65; or refusal 2, 5, 6 or 17. The
+ * parts are told also where it does not serve. The empty group is served, with no parts. */
+uint64_t tag_index_parts(const uint32_t *tags, size_t tags_length, uint32_t seed);
 
 /* The index without tags. Its image has a word for each group in place of the tags: line 0 as in an
  * image with tags, then B group lines of 21 bytes, whatever the number of tags. The listed tags get the

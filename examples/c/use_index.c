@@ -1,6 +1,6 @@
 /* Uses the tag index from C: builds the image of a list, checks it, looks up tags, plans an image and
- * writes it later, tells an edited image from a built one, places a group, and shows what refusals look
- * like. tools/c-example compiles and runs it. */
+ * writes it later, tells an edited image from a built one, places a group, tests seeds for one, and
+ * shows what refusals look like. tools/c-example compiles and runs it. */
 #include <stdio.h>
 #include <string.h>
 
@@ -100,6 +100,19 @@ static void place(const uint32_t *tags, size_t count, uint32_t limit) {
     printf("\n");
 }
 
+/* Says whether a seed serves a group, and how many parts the group's graph has under it. */
+static void count_parts(const uint32_t *tags, size_t count, uint32_t seed) {
+    uint64_t answer = tag_index_parts(tags, count, seed);
+    if (tag_index_refused(answer)) {
+        printf("seed %lu: refusal %u at %u\n", (unsigned long)seed,
+               (unsigned)tag_index_refusal_number(answer),
+               (unsigned)tag_index_refusal_place(answer));
+    } else {
+        printf("seed %lu: %s, parts: %u\n", (unsigned long)seed,
+               answer % 2 ? "serves" : "does not serve", (unsigned)(answer / 2));
+    }
+}
+
 int main(void) {
     /* B = 2 groups, seed limit L = 9, and the tags 1, 2 and 3. */
     const char *list = "    2    9\n"
@@ -175,5 +188,13 @@ int main(void) {
     place(second, 2, 2);
     place(third, TAG_INDEX_LARGEST_GROUP + 1, 1);
     place(third, TAG_INDEX_LARGEST_GROUP, 1);
+
+    /* Seeds tested for the second: under seed 0 both its tags have one place, and the other is a part
+     * by itself. 65,536 is no seed, and no tags are served. */
+    count_parts(second, 2, 0);
+    count_parts(second, 2, 1);
+    count_parts(second, 2, 65536);
+    count_parts(third, TAG_INDEX_LARGEST_GROUP, 0);
+    count_parts(second, 0, 0);
     return 0;
 }

@@ -1,4 +1,4 @@
-// Runs the ten functions of the C boundary: the whole case of document 01, and refusals of each operation. Each answer is printed
+// Runs the eleven functions of the C boundary: the whole case of document 01, and refusals of each operation. Each answer is printed
 // as the number that C gets.
 
 // Prints the case's name and an answer.
@@ -58,6 +58,11 @@ fn place(name: &[u8], tags: &[u32], limit: u32) {
         tag_index::tag_index_place_group(tags, limit, &mut word),
     );
     cell(&word);
+}
+
+// Prints what counting parts answers.
+fn count_parts(name: &[u8], tags: &[u32], seed: u32) {
+    answer(name, tag_index::tag_index_parts(tags, seed));
 }
 
 // Prints what checking answers, and lookups of the tags 0 to 4.
@@ -436,6 +441,15 @@ fn edited_images() {
     );
 }
 
+// A seed that serves, in one part, and one that does not, in two; the empty group; a number that is no seed; and 6 at its place.
+fn parts() {
+    count_parts(b"parts under a seed that serves", &[1, 3], 1);
+    count_parts(b"parts under a seed that does not", &[1, 3], 0);
+    count_parts(b"parts of the empty group", &[], 65535);
+    count_parts(b"parts, seed 65536", &[1, 3], 65536);
+    count_parts(b"parts, tag 5 after tag 9", &[3, 9, 5], 0);
+}
+
 fn main() {
     building();
     building_refused();
@@ -450,4 +464,5 @@ fn main() {
     tagless_images();
     strict_images();
     edited_images();
+    parts();
 }

@@ -2,7 +2,7 @@
 
 use model::hash::{group_of, place_of};
 use model::list_text;
-use model::placing::LARGEST_GROUP;
+use model::placing::{serves, LARGEST_GROUP};
 use random::Random;
 use std::collections::HashSet;
 use std::iter;
@@ -215,6 +215,77 @@ pub fn placed() -> Vec<Groups> {
     ]
 }
 
+/// Groups, each with a limit, of which every seed below it is tested.
+pub struct Tested {
+    pub title: String,
+    pub groups: Vec<(Vec<u32>, u32)>,
+}
+
+impl Tested {
+    /// The number of seeds, of all groups together.
+    pub fn seeds(&self) -> usize {
+        self.groups.iter().map(|&(_, limit)| limit as usize).sum()
+    }
+
+    /// How many of them are not dropped early.
+    pub fn passing(&self) -> usize {
+        let passing = |(tags, limit): &(Vec<u32>, u32)| passing(tags, *limit);
+        self.groups.iter().map(passing).sum()
+    }
+}
+
+/// The sizes of groups for which seeds are tested, with how many groups.
+const TESTED: [(usize, usize); 4] = [(8, 1_000), (16, 200), (24, 40), (32, 20)];
+
+/// The most seeds of a group that are tested.
+const MOST_TESTED: u32 = 512;
+
+/// Random groups whose least seed is above 0, with it as the limit, or a lower one: no seed serves.
+pub fn failing() -> Vec<Tested> {
+    let mut random = Random::new(11);
+    let mut failing = |(n, count): (usize, usize)| {
+        let drawn = iter::repeat_with(|| random.tags(n));
+        let limited = drawn.map(|tags| {
+            let passed_over = (0..MOST_TESTED).take_while(|&seed| !serves(&tags, seed));
+            let limit = passed_over.count() as u32;
+            (tags, limit)
+        });
+        Tested {
+            title: format!("do not serve, {n} random tags"),
+            groups: limited
+                .filter(|&(_, limit)| limit > 0)
+                .take(count)
+                .collect(),
+        }
+    };
+    TESTED.map(&mut failing).into()
+}
+
+/// The groups that no seed serves and of which none is dropped early, with a limit that is soon reached.
+pub fn failing_by_eviction() -> Vec<Tested> {
+    let mut cases = unserved();
+    cases.retain(|case| case.name.ends_with("evicted"));
+    let tested = |case: &Case| Tested {
+        title: format!("do not serve, {} tags, none dropped", case.tags.len()),
+        groups: vec![(case.tags.clone(), MOST_TESTED)],
+    };
+    cases.iter().map(tested).collect()
+}
+
+/// Random groups that seed 0 serves, with 1 as the limit.
+pub fn serving() -> Vec<Tested> {
+    let mut random = Random::new(12);
+    let mut serving = |n: usize| {
+        let drawn = iter::repeat_with(|| random.tags(n));
+        let served = drawn.filter(|tags| serves(tags, 0)).map(|tags| (tags, 1));
+        Tested {
+            title: format!("serve, {n} random tags"),
+            groups: served.take(100).collect(),
+        }
+    };
+    TESTED.map(|(n, _)| serving(n)).into()
+}
+
 /// Of the tags 1, 2, 3, … those whose group has fewer than `most` so far.
 pub fn walked(count: usize, groups: u32, most: usize) -> Vec<u32> {
     with_room(1.., count, groups, most)
@@ -242,8 +313,8 @@ fn with_room(tags: impl Iterator<Item = u32>, count: usize, groups: u32, most: u
     tags.filter(has_room).take(count).collect()
 }
 
-/// How many of the seeds the occupancy word lets pass.
-pub fn passing(tags: &[u32]) -> usize {
+/// How many of the seeds below a limit the occupancy word lets pass.
+pub fn passing(tags: &[u32], limit: u32) -> usize {
     let n = tags.len() as u32;
     let touches_all = |&seed: &u32| {
         let mut word = 0u32;
@@ -254,12 +325,15 @@ pub fn passing(tags: &[u32]) -> usize {
         }
         word.count_ones() == n
     };
-    (0..LIMIT).filter(touches_all).count()
+    (0..limit).filter(touches_all).count()
 }
 
 #[cfg(test)]
 mod tests {
-    use super::{built, passing, planned, unserved, LARGEST_GROUP, LIMIT};
+    use super::{
+        built, failing, failing_by_eviction, passing, planned, serving, unserved, LARGEST_GROUP,
+        LIMIT,
+    };
     use crate::plain::place_group;
 
     #[test]
@@ -293,7 +367,24 @@ mod tests {
             assert_eq!(answer, 7 << 32, "{}", case.title);
             let dropped = case.name.ends_with("dropped");
             let passing_due = if dropped { 0 } else { LIMIT as usize };
-            assert_eq!(passing(&case.tags), passing_due, "{}", case.title);
+            assert_eq!(passing(&case.tags, LIMIT), passing_due, "{}", case.title);
+        }
+    }
+    #[test]
+    fn placing_tries_exactly_the_seeds_that_are_tested() {
+        for tested in failing().iter().chain(&failing_by_eviction()) {
+            for (tags, limit) in &tested.groups {
+                assert_eq!(place_group(tags, *limit, &mut [0]), 7 << 32);
+            }
+        }
+        for tested in failing_by_eviction() {
+            assert_eq!(tested.passing(), tested.seeds(), "{}", tested.title);
+        }
+        for tested in serving() {
+            assert_eq!(tested.passing(), tested.seeds(), "{}", tested.title);
+            for (tags, limit) in &tested.groups {
+                assert_eq!((place_group(tags, *limit, &mut [0]), *limit), (0, 1));
+            }
         }
     }
 }

@@ -4,6 +4,7 @@
 //! difference of two runs is what the repetitions between them take.
 
 use crate::cases::{self, Case, LIMIT};
+use crate::parts;
 use crate::versions::{Version, BOTH, PLAIN};
 use random::Random;
 use std::hint::black_box;
@@ -12,7 +13,7 @@ use tag_index::{LONGEST_IMAGE, PLAN_CELLS};
 /// Lookups in a repetition.
 const LOOKUPS: usize = 1_000;
 
-const OPERATIONS: [&str; 12] = [
+const OPERATIONS: [&str; 13] = [
     "build",
     "plan",
     "write",
@@ -21,14 +22,16 @@ const OPERATIONS: [&str; 12] = [
     "hits",
     "misses",
     PLACE,
+    COUNT_PARTS,
     "tagless_build",
     "tagless_check",
     "tagless_hits",
     "tagless_strangers",
 ];
 
-/// The operation that takes groups and no list.
+/// The operations that take groups and no list.
 const PLACE: &str = "place";
+const COUNT_PARTS: &str = "count_parts";
 
 /// What the operations of the index without tags begin with.
 const TAGLESS: &str = "tagless_";
@@ -37,7 +40,7 @@ const TAGLESS: &str = "tagless_";
 pub fn print_cases() {
     for operation in OPERATIONS {
         let names: Vec<&str> = match operation {
-            PLACE => cases::placed().iter().map(|groups| groups.name).collect(),
+            PLACE | COUNT_PARTS => cases::placed().iter().map(|groups| groups.name).collect(),
             _ => cases_of(operation).iter().map(|case| case.name).collect(),
         };
         for name in names {
@@ -73,11 +76,14 @@ pub fn run(case: &str, version: &str, repetitions: &str) -> Result<(), String> {
     let repetitions = repetitions
         .parse()
         .map_err(|_| format!("{repetitions} is no number of repetitions"))?;
-    if operation == PLACE {
+    if [PLACE, COUNT_PARTS].contains(&operation) {
         let mut groups = cases::placed();
         groups.retain(|listed| listed.name == name);
         let groups = groups.pop().ok_or_else(no_case)?;
-        repeat_placing(&groups.groups, version, repetitions);
+        match operation {
+            PLACE => repeat_placing(&groups.groups, version, repetitions),
+            _ => repeat_counting(&parts::under_two_seeds(&groups), version, repetitions),
+        }
     } else {
         let mut cases = cases_of(operation);
         cases.retain(|listed| listed.name == name);
@@ -97,6 +103,15 @@ fn repeat_placing(groups: &[Vec<u32>], version: Version, repetitions: u32) {
                 LIMIT,
                 black_box(&mut word),
             ));
+        }
+    }
+}
+
+/// Counts the parts of each group under its seed in a repetition.
+fn repeat_counting(tested: &[(Vec<u32>, u32)], version: Version, repetitions: u32) {
+    for _ in 0..repetitions {
+        for (tags, seed) in tested {
+            black_box((version.count_parts)(black_box(tags), *seed));
         }
     }
 }

@@ -5,6 +5,7 @@
 //!     bench --slot-lines                      the table of slot lines read by a hit alone
 //!     bench --tagless                         the tables of the index without tags alone
 //!     bench --strict                          the tables of the strict check alone
+//!     bench --parts                           the tables of counting parts alone
 //!     bench --plots DIR                       the growth tables, and DIR/growth-*.svg
 //!     bench --count CASE VERSION REPETITIONS  one case, for counting instructions; `--count` alone names the cases
 //!     bench --print                           the plain version as an index printer
@@ -12,6 +13,7 @@
 mod cases;
 mod count;
 mod growth;
+mod parts;
 mod plain;
 mod plot;
 mod slot_lines;
@@ -44,6 +46,7 @@ fn main() -> ExitCode {
         ["--slot-lines"] => slot_lines::print(),
         ["--tagless"] => tagless::print(),
         ["--strict"] => strict::print(),
+        ["--parts"] => parts::print(),
         ["--print"] => {
             if let Err(error) = print_index() {
                 eprintln!("bench: {error}");
@@ -64,7 +67,7 @@ fn main() -> ExitCode {
             }
         }
         _ => {
-            eprintln!("usage: bench [--printer PATH | --slot-lines | --tagless | --strict | --plots DIR | --count [CASE VERSION REPETITIONS] | --print]");
+            eprintln!("usage: bench [--printer PATH | --slot-lines | --tagless | --strict | --parts | --plots DIR | --count [CASE VERSION REPETITIONS] | --print]");
             return ExitCode::from(2);
         }
     }

@@ -1,7 +1,8 @@
-//! Building, checking and lookup of each case, planning, writing, placing, the strict check and printing:
-//! every version's time, with its results asserted.
+//! Building, checking and lookup of each case, planning, writing, placing, counting parts, the strict check
+//! and printing: every version's time, with its results asserted.
 
 use crate::cases::{self, Case, Groups, LIMIT};
+use crate::parts;
 use crate::slot_lines;
 use crate::strict;
 use crate::tagless;
@@ -38,7 +39,7 @@ pub fn print(printer: &Path) {
     println!("  sorted slice   pairs of the parsed list, by binary search");
     println!("  build          the proved library building the same list, beside the strict check");
     println!("  with tags      the proved library on the image with tags of the same list, beside the index without tags");
-    println!("Answers, plans and images are asserted equal, byte for byte, to the model's: after every build, planning and writing, and after every pass of checks, lookups or placings, outside the times.");
+    println!("Answers, plans and images are asserted equal, byte for byte, to the model's: after every build, planning and writing, and after every pass of checks, lookups, placings or counts of parts, outside the times.");
     println!("Buffers are filled with '.' before every build and writing, cells with {NO_SEED} before every planning, outside the times; L = {LIMIT} in all cases.");
 
     let mut rows = Vec::new();
@@ -51,6 +52,7 @@ pub fn print(printer: &Path) {
     rows.extend(planned.iter().map(write));
     rows.extend(printed.iter().map(|case| print_index(case, printer)));
     rows.extend(cases::placed().iter().map(place));
+    rows.extend(parts::rows());
     rows.extend(built.iter().map(check));
     let strictly = strict::rows(&planned);
     let mut random = Random::new(3);
@@ -75,6 +77,7 @@ pub fn print(printer: &Path) {
         );
     }
     strict::print_beside(&strictly);
+    parts::print_beside();
     slot_lines::print();
     tagless::print_beside(&without_tags);
     tagless::print_sizes(&built);
@@ -210,7 +213,7 @@ fn build_unserved(case: &Case) -> Row {
     } else {
         LIMIT as usize
     };
-    assert_eq!(cases::passing(&case.tags), passing, "{}", case.title);
+    assert_eq!(cases::passing(&case.tags, LIMIT), passing, "{}", case.title);
     row(format!("build: {}", case.title), build_samples(case))
 }
 

@@ -39,7 +39,7 @@ pub fn compare(tally: &mut Tally, random: &mut Random, size: &Size) {
 
 /// Of all groups of n tags by their pairs of places: how many seed 1 serves, in how many of these several
 /// sequences have the fewest ones, and how many the lowest tag alone would fill otherwise.
-const SERVED: [(u64, u64, u64); 5] = [
+pub const SERVED: [(u64, u64, u64); 5] = [
     (1, 0, 0),
     (14, 2, 0),
     (522, 90, 12),
@@ -78,7 +78,7 @@ fn every_group(tally: &mut Tally, n: usize) {
 
 /// A tag in the fifth of all numbers with this index that has the pair of places under seed 1 in a group
 /// of n tags, and not the place 0 under seed 0, unless there is no other.
-fn tag_with(n: usize, index: usize, pair: usize) -> u32 {
+pub fn tag_with(n: usize, index: usize, pair: usize) -> u32 {
     let fifth = u32::MAX / 5;
     let from = 1 + index as u32 * fifth;
     let places = |seed, tag| [0, 1].map(|choice| place_of(n as u32, seed, choice, tag) as usize);
@@ -91,7 +91,7 @@ fn tag_with(n: usize, index: usize, pair: usize) -> u32 {
 
 /// Pairs of places whose graph has cycles, in which the order of choices decides, and others. The places
 /// are renamed and the pairs turned round at random.
-fn shapes(random: &mut Random, n: usize) -> Vec<(&'static str, Vec<Key>)> {
+pub fn shapes(random: &mut Random, n: usize) -> Vec<(&'static str, Vec<Key>)> {
     let first = random.within(1, n);
     let mut all = vec![
         ("one long cycle", groups::cycle(n)),
@@ -107,14 +107,19 @@ fn shapes(random: &mut Random, n: usize) -> Vec<(&'static str, Vec<Key>)> {
         ("functions", groups::function(random, n)),
     ];
     for (_, keys) in &mut all {
-        let mut names: Vec<usize> = (0..n).collect();
-        random.shuffle(&mut names);
-        for key in keys {
-            *key = key.map(|place| names[place]);
-            key.swap(0, random.below(2));
-        }
+        rename(random, n, keys);
     }
     all
+}
+
+/// Gives the n places other names, and turns some pairs round.
+pub fn rename(random: &mut Random, n: usize, keys: &mut [Key]) {
+    let mut names: Vec<usize> = (0..n).collect();
+    random.shuffle(&mut names);
+    for key in keys {
+        *key = key.map(|place| names[place]);
+        key.swap(0, random.below(2));
+    }
 }
 
 /// Two graphs on different places.
@@ -164,7 +169,7 @@ fn write(tally: &mut Tally, tags: &[u32], seed: u32) {
 }
 
 /// Ascending tags with these pairs of places under the seed, whichever tag has which.
-fn tags_with(random: &mut Random, keys: &[Key], seed: u32) -> Vec<u32> {
+pub fn tags_with(random: &mut Random, keys: &[Key], seed: u32) -> Vec<u32> {
     let n = keys.len() as u64;
     let inverse = inverse_of(multiplier(seed, 0) as u32);
     let mut tags = Vec::with_capacity(keys.len());

@@ -6,6 +6,7 @@
 //!     compare --small          few cases, in memory of just the right size: for a memory checker
 //!     compare --tagless        the cases of the index without tags alone
 //!     compare --strict         the images edited for the strict check alone
+//!     compare --parts          the groups whose parts are counted alone
 //!     compare --stored         the stored outputs of the program crates, printed again from the model
 //!     compare --print PROGRAM  what the model writes for the cases of a program crate
 //!     compare --soak SECONDS   all calls again and again in one process, whose memory must not grow
@@ -17,6 +18,7 @@ mod choices;
 mod groups;
 mod images;
 mod lists;
+mod parts;
 mod plans;
 mod printing;
 mod soak;
@@ -73,6 +75,8 @@ pub struct Size {
     edits: usize,
     large_edits: usize,
     seed_step: usize,
+    /// For counting parts: rounds of all shapes of groups and of drawn ones, of each size.
+    parts: usize,
     /// For the index without tags: rounds of lists of many groups, and of groups of each size and kind.
     many_groups: usize,
     words: usize,
@@ -101,6 +105,7 @@ const SMALL: Size = Size {
     edits: 1,
     large_edits: 1,
     seed_step: 4_001,
+    parts: 1,
     many_groups: 1,
     words: 1,
     least: Least {
@@ -109,6 +114,7 @@ const SMALL: Size = Size {
         words: 1_000,
         choices: 100,
         edited: 1_000,
+        parts: 1_000,
     },
 };
 
@@ -134,6 +140,7 @@ const USUAL: Size = Size {
     edits: 2_600,
     large_edits: 6,
     seed_step: 1,
+    parts: 24,
     many_groups: 40,
     words: 24,
     least: Least {
@@ -142,6 +149,7 @@ const USUAL: Size = Size {
         words: 100_000,
         choices: 100_000,
         edited: 1_000_000,
+        parts: 100_000,
     },
 };
 
@@ -167,6 +175,7 @@ const LONG: Size = Size {
     edits: 26_000,
     large_edits: 60,
     seed_step: 1,
+    parts: 240,
     many_groups: 400,
     words: 240,
     least: Least {
@@ -175,6 +184,7 @@ const LONG: Size = Size {
         words: 1_000_000,
         choices: 1_000_000,
         edited: 2_000_000,
+        parts: 1_000_000,
     },
 };
 
@@ -182,6 +192,7 @@ enum Task {
     Compare,
     Tagless,
     Strict,
+    Parts,
     Stored,
     Print(String),
     Soak(Duration),
@@ -225,6 +236,7 @@ fn options() -> Result<Options, String> {
             }
             "--tagless" => options.task = Task::Tagless,
             "--strict" => options.task = Task::Strict,
+            "--parts" => options.task = Task::Parts,
             "--stored" => options.task = Task::Stored,
             "--print" => options.task = Task::Print(value()?),
             "--soak" => options.task = Task::Soak(Duration::from_secs(number(value()?)?)),
@@ -249,6 +261,7 @@ fn main() -> ExitCode {
         Task::Compare => compare(&options),
         Task::Tagless => compare_tagless(&options),
         Task::Strict => compare_strict(&options),
+        Task::Parts => compare_parts(&options),
         Task::Stored => stored::compare(&root().join("crates")),
         Task::Print(program) => print(program),
         Task::Soak(time) => soak::run(options.seed, *time),
@@ -293,6 +306,20 @@ fn compare_strict(options: &Options) -> bool {
     complete
 }
 
+/// The groups whose parts are counted alone.
+fn compare_parts(options: &Options) -> bool {
+    let begun = Instant::now();
+    let mut tally = Tally::new(options.exact);
+    parts::compare(&mut tally, &mut Random::new(options.seed), &options.size);
+    let complete = tally.report_parts(options.size.least.parts);
+    let compared = tally.compared();
+    println!(
+        "compare: {compared} answers for groups whose parts are counted, no difference; {:.1} s",
+        begun.elapsed().as_secs_f64()
+    );
+    complete
+}
+
 fn compare(options: &Options) -> bool {
     let begun = Instant::now();
     if let Some(printer) = options.printer.as_ref().filter(|path| !path.is_file()) {
@@ -312,6 +339,7 @@ fn compare(options: &Options) -> bool {
     widths::compare(&mut tally, &mut random);
     tagless::compare(&mut tally, &mut random, size);
     strict::compare(&mut tally, &mut Random::new(options.seed), size);
+    parts::compare(&mut tally, &mut Random::new(options.seed), size);
     if let Some(printer) = &options.printer {
         printing::compare(&mut tally, &mut random, size, printer);
     }

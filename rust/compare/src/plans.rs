@@ -413,13 +413,17 @@ fn few_tags(tally: &mut Tally, random: &mut Random) {
     }
 }
 
+/// All sets of these refusals, each in the order given.
+pub fn all_sets(order: &[u32]) -> impl Iterator<Item = Vec<u32>> + '_ {
+    (0..1u32 << order.len()).map(|set| {
+        let chosen = (0..order.len()).filter(move |&at| set >> at & 1 == 1);
+        chosen.map(|at| order[at]).collect()
+    })
+}
+
 /// All sets of these refusals; with 5, which takes a list of more than 4,096 tags, only small ones.
 pub fn sets(order: &[u32]) -> Vec<Vec<u32>> {
-    (0..1u32 << order.len())
-        .map(|set| {
-            let chosen = (0..order.len()).filter(|&at| set >> at & 1 == 1);
-            chosen.map(|at| order[at]).collect::<Vec<u32>>()
-        })
+    all_sets(order)
         .filter(|due| !due.contains(&5) || due.len() <= 2)
         .collect()
 }

@@ -1,5 +1,5 @@
-//! One process that places groups, plans, writes, rebuilds and looks up for a given time, with tags and
-//! without: every answer must be the model's, and the process must not grow.
+//! One process that places groups and counts their parts, plans, writes, rebuilds and looks up for a given
+//! time, with tags and without: every answer must be the model's, and the process must not grow.
 
 use std::fs;
 use std::time::{Duration, Instant};
@@ -62,6 +62,8 @@ struct Group {
     /// What the cell holds before, and afterwards.
     cell: u32,
     word: u32,
+    /// Seeds, the one that placing found among them, and what counting parts answers for each.
+    parts: [(u32, u64); 3],
 }
 
 pub fn run(seed: u64, time: Duration) -> bool {
@@ -302,19 +304,23 @@ fn groups(random: &mut Random) -> Vec<Group> {
             let cell = random.next_u64() as u32;
             let mut word = [cell];
             let placed = model::answer_place(&tags, limit, &mut word);
+            let seeds = [placed as u32, random.below(65_536) as u32, 65_536];
+            let parts = seeds.map(|seed| (seed, model::answer_parts(&tags, seed)));
             Group {
                 tags,
                 limit,
                 placed,
                 cell,
                 word: word[0],
+                parts,
             }
         })
         .collect()
 }
 
-/// Places every group once; the number of answers.
+/// Places every group once, and counts its parts; the number of answers.
 fn place(groups: &[Group]) -> u64 {
+    let mut answers = 0;
     for (index, group) in groups.iter().enumerate() {
         let mut cell = [group.cell];
         let answer = raw::place_group(&group.tags, group.limit, &mut cell);
@@ -324,8 +330,17 @@ fn place(groups: &[Group]) -> u64 {
                 group.placed, group.word
             ));
         }
+        for &(seed, expected) in &group.parts {
+            let answer = raw::count_parts(&group.tags, seed);
+            if answer != expected {
+                differs(&format!(
+                    "soak, counting parts of group {index}: {answer} instead of {expected}"
+                ));
+            }
+        }
+        answers += 1 + group.parts.len() as u64;
     }
-    groups.len() as u64
+    answers
 }
 
 /// The memory of this process that is in use now.

@@ -1,6 +1,7 @@
 //! One case on both sides: calls the library and the model, compares, and counts.
 
 pub mod choices;
+mod parts;
 pub mod strict;
 mod words;
 
@@ -13,6 +14,7 @@ use tag_index::{raw, Index, Plan, Reason, Refusal, TaglessIndex, UNKNOWN};
 
 use crate::lists::Case;
 use choices::Choices;
+use parts::Counted;
 use strict::{Strict, BEFORE_19};
 use words::Words;
 
@@ -22,10 +24,11 @@ const GUARD: usize = 32;
 /// Cells before and behind the plan that planning is lent, which must stay as they are.
 const GUARD_CELLS: usize = 4;
 
-/// The ten calls over the C boundary, and the printer's run.
+/// The eleven calls over the C boundary, and the printer's run.
 #[derive(Clone, Copy, PartialEq, Eq, PartialOrd, Ord)]
 pub enum Operation {
     Placing,
+    CountingParts,
     Planning,
     Writing,
     Building,
@@ -39,8 +42,9 @@ pub enum Operation {
 }
 
 impl Operation {
-    pub const ALL: [Operation; 11] = [
+    pub const ALL: [Operation; 12] = [
         Operation::Placing,
+        Operation::CountingParts,
         Operation::Planning,
         Operation::Writing,
         Operation::Building,
@@ -56,6 +60,7 @@ impl Operation {
     fn name(self) -> &'static str {
         match self {
             Operation::Placing => "placing",
+            Operation::CountingParts => "counting parts",
             Operation::Planning => "planning",
             Operation::Writing => "writing",
             Operation::Building => "building",
@@ -73,6 +78,7 @@ impl Operation {
     fn refusals(self) -> &'static [usize] {
         match self {
             Operation::Placing => &[4, 5, 6, 7, 17],
+            Operation::CountingParts => &[2, 5, 6, 17],
             Operation::Planning => &[4, 5, 6, 7, 8, 10, 16, 17],
             Operation::Writing => &[2, 5, 6, 8, 9, 10, 16, 17, 18],
             Operation::Building | Operation::TaglessBuilding => &[4, 5, 6, 7, 8, 9, 10, 16, 17],
@@ -87,9 +93,10 @@ impl Operation {
     }
 
     /// The refusals of an operation that takes a text, in the order written. The first two are reading's:
-    /// a list of more than 4,096 tags is refused there already.
+    /// a list of more than 4,096 tags is refused there already. And those of counting parts.
     pub fn order(self) -> &'static [u32] {
         match self {
+            Operation::CountingParts => &[2, 5, 6, 17],
             Operation::Planning => &[16, 5, 8, 4, 6, 17, 10, 7],
             Operation::Writing => &[16, 5, 8, 2, 6, 17, 9, 10, 18],
             Operation::Building => &[16, 5, 8, 4, 6, 17, 10, 7, 9],
@@ -99,18 +106,21 @@ impl Operation {
     }
 
     /// Whether the refusal names a place. 17 names a slot in both checks; otherwise it is the first tag
-    /// that is 0. Placing has one group, so its 7 names none.
+    /// that is 0. Placing has one group, so its 7 names none, and counting parts one seed, so its 2 names
+    /// none.
     fn names_place(self, number: usize) -> bool {
         let reason = Reason::from_number(number as u32);
         reason.and_then(Reason::place_kind).is_some()
             && (number != 17 || matches!(self, Operation::Checking | Operation::StrictChecking))
             && (number != 7 || self != Operation::Placing)
+            && (number != 2 || self != Operation::CountingParts)
     }
 
     /// What an answer is called that is neither unknown nor a refusal.
     fn success(self) -> &'static str {
         match self {
             Operation::Placing => "seed",
+            Operation::CountingParts => "parts",
             Operation::Planning => "plan",
             Operation::Writing => "length",
             Operation::Building | Operation::TaglessBuilding => "length",
@@ -284,12 +294,14 @@ pub struct Least {
     pub choices: u64,
     /// Images edited for the strict check.
     pub edited: u64,
+    /// Groups made or drawn for counting parts.
+    pub parts: u64,
 }
 
 pub struct Tally {
     kind: &'static str,
     kinds: BTreeMap<(Operation, &'static str), u64>,
-    answers: [Answers; 11],
+    answers: [Answers; 12],
     placed: Placed,
     plans: Plans,
     /// What decided in the groups that were placed, and in those of images written under a plan.
@@ -302,6 +314,8 @@ pub struct Tally {
     chosen: u64,
     /// Images edited for the strict check.
     strict: Strict,
+    /// Groups whose parts were counted.
+    parts: Counted,
     /// Cases with several refusals due at once, by the first two of them in the order written.
     pairs: BTreeMap<(Operation, u32, u32), u64>,
     unwired: Unwired,
@@ -327,6 +341,7 @@ impl Tally {
             every_group: BTreeMap::new(),
             chosen: 0,
             strict: Strict::default(),
+            parts: Counted::default(),
             pairs: BTreeMap::new(),
             unwired: Unwired::default(),
             indexes: Indexes::default(),
@@ -376,6 +391,75 @@ impl Tally {
             self.choices.add(tags, answer as u32, theirs[0]);
         }
         (answer, theirs[0])
+    }
+
+    /// Counts the parts of a group under a seed on both sides and through the binding, and answers what all
+    /// answered.
+    pub fn count_parts(&mut self, tags: &[u32], seed: u32) -> u64 {
+        let answer = if self.exact {
+            raw::count_parts(&Box::<[u32]>::from(tags), seed)
+        } else {
+            raw::count_parts(tags, seed)
+        };
+        let expected = model::answer_parts(tags, seed);
+        if answer != expected {
+            let (answer, expected) = (said(answer), said(expected));
+            self.parts_differ(
+                tags,
+                seed,
+                &format!("the library answers {answer}, the model {expected}"),
+            );
+        }
+        let taken = tag_index::count_parts(tags, seed).map_or_else(answer_of, |parts| {
+            2 * u64::from(parts.number) + u64::from(parts.serves)
+        });
+        if taken != answer {
+            let fault = format!("both sides answer {}, the binding {taken}", said(answer));
+            self.parts_differ(tags, seed, &fault);
+        }
+        self.count(Operation::CountingParts, answer);
+        if answer >> 32 == 0 {
+            if let Err(fault) = self.parts.add(tags, seed, answer) {
+                let fault = format!("both sides answer {answer}, and {fault}");
+                self.parts_differ(tags, seed, &fault);
+            }
+        }
+        answer
+    }
+
+    /// Counts the parts of a group that was made or drawn for it.
+    pub fn parts_of_made(&mut self, tags: &[u32], seed: u32) -> u64 {
+        self.parts.made += 1;
+        self.count_parts(tags, seed)
+    }
+
+    /// Places a group, and says by counting parts that the seed found serves and that no lower one does;
+    /// none below the limit if placing refuses with 7.
+    pub fn parts_beside_placing(&mut self, tags: &[u32], limit: u32) {
+        let (answer, _) = self.place(tags, limit, 0);
+        let (passed_over, found) = match answer >> 32 {
+            0 => (answer as u32, Some(answer as u32)),
+            7 => (limit, None),
+            _ => return,
+        };
+        for seed in (0..passed_over).chain(found) {
+            let serves = self.count_parts(tags, seed) % 2 == 1;
+            if serves != (Some(seed) == found) {
+                let fault = format!(
+                    "both sides say {serves}, and placing answers {}",
+                    said(answer)
+                );
+                self.parts_differ(tags, seed, &fault);
+            }
+        }
+        self.parts.placed(passed_over);
+    }
+
+    fn parts_differ(&self, tags: &[u32], seed: u32, fault: &str) -> ! {
+        let kind = self.kind;
+        differs(&format!(
+            "counting parts ({kind}): {fault}\ntags {tags:?}, seed {seed}"
+        ))
     }
 
     /// What decided in the groups placed so far.
@@ -866,22 +950,34 @@ impl Tally {
             Operation::Building,
             Operation::TaglessBuilding,
         ] {
-            let order = operation.order();
-            let pairs = order.len() * (order.len() - 1) / 2;
-            let counts: Vec<u64> = self
-                .pairs
-                .range((operation, 0, 0)..=(operation, u32::MAX, u32::MAX))
-                .map(|(_, &count)| count)
-                .collect();
-            println!(
-                "            of {}, several refusals due at once: {} cases, {} of {pairs} pairs of the first two",
-                operation.name(),
-                counts.iter().sum::<u64>(),
-                counts.len()
-            );
-            complete &= counts.len() == pairs;
+            complete &= self.report_due(operation);
         }
         complete
+    }
+
+    /// Prints how often several refusals of an operation were due at once, and says whether every pair of
+    /// the first two came.
+    fn report_due(&self, operation: Operation) -> bool {
+        let order = operation.order();
+        let pairs = order.len() * (order.len() - 1) / 2;
+        let counts: Vec<u64> = self
+            .pairs
+            .range((operation, 0, 0)..=(operation, u32::MAX, u32::MAX))
+            .map(|(_, &count)| count)
+            .collect();
+        println!(
+            "            of {}, several refusals due at once: {} cases, {} of {pairs} pairs of the first two",
+            operation.name(),
+            counts.iter().sum::<u64>(),
+            counts.len()
+        );
+        counts.len() == pairs
+    }
+
+    /// Prints what came of counting parts, and says whether there was enough, and every pair of refusals
+    /// due at once.
+    pub fn report_parts(&self, least: u64) -> bool {
+        self.parts.report(least) & self.report_due(Operation::CountingParts)
     }
 
     /// Prints what came of edited images, and says whether there was enough, and each refusal of checking
@@ -945,6 +1041,7 @@ impl Tally {
         }
         complete &= self.placed.report(least.large) && self.report_plans();
         complete &= self.report_choices(least.choices) & self.report_strict(least.edited);
+        complete &= self.report_parts(least.parts);
         complete &= self.unwired.report("") & self.indexes.report("Index");
         complete &= self.words.report(least.words);
         complete &= self.tagless_unwired.report(" without tags");

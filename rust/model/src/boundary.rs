@@ -1,14 +1,16 @@
-//! The answers of the ten calls over the C boundary.
+//! The answers of the eleven calls over the C boundary.
 //!
 //! "Each call answers one 64-bit number: the length, the tag's number or 0 for an accepted check;
 //! 4,294,967,295 for unknown; and for a refusal its number × 2^32 plus its place." Placing a group
 //! answers its seed, and leaves the choice word in a cell that it is lent. Planning answers B, and
-//! leaves the plan in 513 cells. The strict check answers as checking does. The three calls of the index
-//! without tags answer as building, checking and lookup do.
+//! leaves the plan in 513 cells. The strict check answers as checking does. Counting parts answers twice
+//! their number, and 1 more if the seed serves. The three calls of the index without tags answer as
+//! building, checking and lookup do.
 
 use crate::building::build;
 use crate::checking::check;
 use crate::lookup::{lookup, Found};
+use crate::parts::count_parts;
 use crate::placing::place_group;
 use crate::planning::{plan_list, Plan};
 use crate::printer::read_bounded_list;
@@ -131,6 +133,14 @@ pub fn answer_place(tags: &[u32], limit: u32, word: &mut [u32; 1]) -> u64 {
             word[0] = choices;
             u64::from(seed)
         }
+        Err(refusal) => answer_of_refusal(refusal),
+    }
+}
+
+/// Twice the number of parts, at most 64, and 1 more if the seed serves (document 02, §8).
+pub fn answer_parts(tags: &[u32], seed: u32) -> u64 {
+    match count_parts(tags, seed) {
+        Ok(parts) => 2 * u64::from(parts.number) + u64::from(parts.serves),
         Err(refusal) => answer_of_refusal(refusal),
     }
 }

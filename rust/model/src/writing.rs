@@ -8,7 +8,7 @@ use crate::planning::{examine_group_count, examine_tags, members, Plan};
 use crate::refusal::{refuse, refuse_at, Refusal};
 
 /// "a seed is at most 65,535"
-const LARGEST_SEED: u32 = 65_535;
+pub const LARGEST_SEED: u32 = 65_535;
 
 /// "writing takes list, plan and buffer": "writing gives them but for 4 and 7, with 8 for the plan's B.
 /// [..] Refused in writing: 2 directly after 8, at the lowest of the first B groups with a seed above

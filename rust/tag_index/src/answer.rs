@@ -9,8 +9,8 @@ use std::ops::RangeInclusive;
 use crate::refusal::{Reason, Refusal};
 use crate::tagless::LONGEST_TAGLESS_IMAGE;
 use crate::{
-    Placement, LARGEST_GROUP, LARGEST_GROUP_COUNT, LARGEST_LIMIT, LARGEST_LIST, LONGEST_IMAGE,
-    LONGEST_TEXT, PLAN_CELLS,
+    Parts, Placement, LARGEST_GROUP, LARGEST_GROUP_COUNT, LARGEST_LIMIT, LARGEST_LIST,
+    LONGEST_IMAGE, LONGEST_TEXT, PLAN_CELLS,
 };
 
 /// The answer that stands for unknown.
@@ -82,6 +82,12 @@ const PLACING: [Allowed; 5] = [
     (Reason::NotAscending, 1..=LARGEST_GROUP as u32 - 1),
     (Reason::UnwiredTag, NO_PLACE),
     (Reason::NoSeed, NO_PLACE),
+];
+const COUNTING_PARTS: [Allowed; 4] = [
+    (Reason::SeedOutOfRange, NO_PLACE),
+    (Reason::TooManyTags, NO_PLACE),
+    (Reason::NotAscending, 1..=LARGEST_GROUP as u32 - 1),
+    (Reason::UnwiredTag, NO_PLACE),
 ];
 
 const TAGLESS_BUILDING: [Allowed; 9] = [
@@ -214,6 +220,31 @@ pub(crate) fn placed(
     Ok(Placement {
         seed: answer as u32,
         word,
+    })
+}
+
+/// The answer of counting parts for `count` tags and this seed: whether it serves, and the number of
+/// parts; or the refusal.
+pub(crate) fn counted(answer: u64, count: usize, seed: u32) -> Result<Parts, Refusal> {
+    if let Some(refusal) = refusal(answer, &COUNTING_PARTS) {
+        return Err(refusal);
+    }
+    if count > LARGEST_GROUP || seed >= LARGEST_LIMIT {
+        not_allowed("counting parts", answer);
+    }
+    let (number, serves) = (answer / 2, answer % 2 == 1);
+    // No part is without a place, and each place is in one. A single part has n tags on n places, and
+    // is served.
+    let least = match count {
+        0 => 0,
+        _ => 1 + u64::from(!serves),
+    };
+    if !(least..=count as u64).contains(&number) || (count == 0 && !serves) {
+        not_allowed(&format!("counting parts of {count} tags"), answer);
+    }
+    Ok(Parts {
+        serves,
+        number: number as u32,
     })
 }
 
@@ -384,6 +415,7 @@ mod tests {
                 assert_eq!(has(&STRICT_CHECKING), strictly_checked_is(answer, refusal));
                 assert_eq!(has(&LOOKUP), looked_up_is(answer, refusal));
                 assert_eq!(has(&PLACING), placed_is(answer, refusal));
+                assert_eq!(has(&COUNTING_PARTS), counted_is(answer, refusal));
                 assert_eq!(has(&TAGLESS_BUILDING), tagless_built_is(answer, refusal));
                 assert_eq!(has(&TAGLESS_READING), tagless_checked_is(answer, refusal));
                 assert_eq!(has(&TAGLESS_READING), tagless_looked_up_is(answer, refusal));
@@ -436,7 +468,7 @@ mod tests {
     }
 
     #[test]
-    fn the_plan_s_own_refusals_come_from_writing_alone_and_name_a_group() {
+    fn the_plan_s_own_refusals_name_a_group_of_it() {
         for (number, reason) in [(2, Reason::SeedOutOfRange), (18, Reason::SeedDoesNotServe)] {
             for place in [0, 511] {
                 let refusal = Refusal { reason, place };
@@ -472,6 +504,60 @@ mod tests {
         }
     }
 
+    #[test]
+    fn parts_at_their_bounds_are_taken() {
+        let taken = |answer, count| {
+            let parts = counted(answer, count, 65_535).unwrap();
+            (parts.serves, parts.number)
+        };
+        // No tags: served, with no parts. One tag: served, with one.
+        assert_eq!(taken(1, 0), (true, 0));
+        assert_eq!(taken(3, 1), (true, 1));
+        for count in [2, 31, 32] {
+            assert_eq!(taken(3, count), (true, 1));
+            assert_eq!(taken(4, count), (false, 2));
+            let most = count as u64;
+            assert_eq!(taken(2 * most + 1, count), (true, most as u32));
+            assert_eq!(taken(2 * most, count), (false, most as u32));
+        }
+    }
+
+    #[test]
+    fn parts_that_the_papers_do_not_allow_panic() {
+        // No parts of some tags, more parts than places, a single part that is not served.
+        for (answer, count) in [
+            (0, 0),
+            (2, 0),
+            (3, 0),
+            (0, 1),
+            (1, 1),
+            (2, 1),
+            (4, 1),
+            (5, 1),
+            (0, 2),
+            (1, 2),
+            (2, 2),
+            (6, 2),
+            (7, 2),
+            (2, 32),
+            (66, 32),
+            (67, 32),
+            (UNKNOWN, 32),
+            (refused(4, 0), 2),
+            (refused(7, 0), 2),
+            (refused(18, 0), 2),
+            (refused(2, 1), 2),
+            (refused(6, 0), 2),
+            (refused(6, 32), 32),
+        ] {
+            let taken = catch_unwind(|| counted(answer, count, 9));
+            assert!(taken.is_err(), "{answer} for {count}");
+        }
+        // More tags than a group holds, a number that is no seed: refused, or nothing.
+        assert!(catch_unwind(|| counted(3, 33, 9)).is_err());
+        assert!(catch_unwind(|| counted(3, 2, 65_536)).is_err());
+    }
+
     fn built_is(answer: u64, refusal: Refusal) -> bool {
         catch_unwind(|| built(answer, LONGEST_IMAGE)).is_ok_and(|taken| taken == Err(refusal))
     }
@@ -499,6 +585,10 @@ mod tests {
 
     fn placed_is(answer: u64, refusal: Refusal) -> bool {
         catch_unwind(|| placed(answer, 0, 32, 9)).is_ok_and(|taken| taken == Err(refusal))
+    }
+
+    fn counted_is(answer: u64, refusal: Refusal) -> bool {
+        catch_unwind(|| counted(answer, 32, 9)).is_ok_and(|taken| taken == Err(refusal))
     }
 
     fn tagless_built_is(answer: u64, refusal: Refusal) -> bool {

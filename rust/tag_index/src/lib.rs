@@ -1,6 +1,6 @@
 //! The two-choice tag index for a Rust service: building an image from a list, at once or by a plan and
 //! the writing of the image under it, checking it, looking up tags in it, telling whether building made
-//! it, and placing a group by itself.
+//! it, placing a group by itself, and testing a seed for a group.
 //! And the [index without tags](tagless), for a box that has no store for the tags.
 //!
 //! The work is done by the proved functions behind the C boundary; this crate lends them slices and
@@ -356,4 +356,61 @@ pub fn place_group(tags: &[u32], limit: u32) -> Result<Placement, Refusal> {
     let mut word = [0];
     let answer = raw::place_group(tags, limit, &mut word);
     answer::placed(answer, word[0], tags.len(), limit)
+}
+
+/// What [`count_parts`] says of a group and a seed: its graph has the n places for points, and each of
+/// the n tags for an edge between its two places.
+#[derive(Debug, Clone, Copy, PartialEq, Eq, Hash)]
+pub struct Parts {
+    /// Whether the seed serves the group: some sequence of choices gives each tag a place of its own.
+    /// It does exactly if no connected part of the graph has more edges than points.
+    pub serves: bool,
+    /// How many connected parts there are, whether the seed serves or not. A place that no tag has is a
+    /// part by itself.
+    pub number: u32,
+}
+
+impl Parts {
+    /// How many sequences of choices fill the group: 2 to the power of the number of parts, or none if
+    /// the seed does not serve.
+    ///
+    /// ```
+    /// let parts = tag_index::count_parts(&[1, 3], 1)?;
+    /// assert_eq!(parts.filling_sequences(), 2);
+    /// assert_eq!(tag_index::count_parts(&[1, 3], 0)?.filling_sequences(), 0);
+    /// # Ok::<(), tag_index::Refusal>(())
+    /// ```
+    pub const fn filling_sequences(self) -> u64 {
+        match self.serves {
+            true => 1 << self.number,
+            false => 0,
+        }
+    }
+}
+
+/// Tests a seed for one group of at most [`LARGEST_GROUP`] tags, in ascending order and without tag 0:
+/// whether it serves, and how many connected parts the group's graph has under it.
+///
+/// The parts are counted, and no tag is moved. It says that a seed serves exactly where [`place_group`]
+/// would take it if it were the least. The empty group is served, with no parts.
+///
+/// ```
+/// use tag_index::{Parts, Reason};
+/// // Tag 1 has the place 0 twice under seed 1, and tag 3 has 0 and 1: one part.
+/// let parts = tag_index::count_parts(&[1, 3], 1)?;
+/// assert_eq!(parts, Parts { serves: true, number: 1 });
+/// // Under seed 0 both have no place but 1, and place 0 is a part by itself.
+/// let parts = tag_index::count_parts(&[1, 3], 0)?;
+/// assert_eq!(parts, Parts { serves: false, number: 2 });
+///
+/// let refusal = tag_index::count_parts(&[1, 3], 65_536).unwrap_err();
+/// assert_eq!((refusal.reason, refusal.place), (Reason::SeedOutOfRange, 0));
+/// # Ok::<(), tag_index::Refusal>(())
+/// ```
+///
+/// # Panics
+///
+/// If the library's answer is not one that the papers allow; the proved library's always is.
+pub fn count_parts(tags: &[u32], seed: u32) -> Result<Parts, Refusal> {
+    answer::counted(raw::count_parts(tags, seed), tags.len(), seed)
 }

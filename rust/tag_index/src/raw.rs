@@ -1,4 +1,4 @@
-//! The ten functions of the C boundary, and a safe function over each that answers its 64-bit
+//! The eleven functions of the C boundary, and a safe function over each that answers its 64-bit
 //! number as it is. All `unsafe` of this crate stands here.
 //!
 //! Each function takes any bytes, numbers and lengths, and reads and writes only inside the ranges
@@ -40,6 +40,7 @@ mod c {
             limit: u32,
             word: *mut u32,
         ) -> u64;
+        pub fn tag_index_parts(tags: *const u32, tags_length: usize, seed: u32) -> u64;
         pub fn tag_index_tagless_build(
             text: *const u8,
             text_length: usize,
@@ -166,6 +167,22 @@ pub fn place_group(tags: &[u32], limit: u32, word: &mut [u32; 1]) -> u64 {
     // SAFETY: pointer and length come from a slice, and the other pointer from a reference to one
     // cell; both live through the call. `word` is borrowed for writing, so `tags` does not overlap it.
     unsafe { c::tag_index_place_group(tags.as_ptr(), tags.len(), limit, word.as_mut_ptr()) }
+}
+
+/// The answer of counting parts: twice their number, and 1 more if the seed serves; or refusal number ×
+/// 2^32 + place.
+///
+/// ```
+/// use tag_index::raw::count_parts;
+/// // Seed 0 gives tags 1 and 3 one place of two: the other is a part by itself.
+/// assert_eq!(count_parts(&[1, 3], 0), 2 * 2);
+/// assert_eq!(count_parts(&[1, 3], 1), 2 * 1 + 1);
+/// assert_eq!(count_parts(&[1, 3], 65_536), 2 << 32);
+/// ```
+pub fn count_parts(tags: &[u32], seed: u32) -> u64 {
+    // SAFETY: pointer and length come from a slice that lives through the call, and the function
+    // only reads.
+    unsafe { c::tag_index_parts(tags.as_ptr(), tags.len(), seed) }
 }
 
 /// The answer of building without tags: the image's length, or refusal number × 2^32 + place.

@@ -22,7 +22,8 @@ pub enum Reason {
     ChoiceOutOfRange = 3,
     /// 4: the seed limit L is not 1 to 65,536.
     LimitOutOfRange = 4,
-    /// 5: more tags than 4,096, from placing more than 32, or a text longer than 65,527 bytes.
+    /// 5: more tags than 4,096, from placing and from counting parts more than 32, or a text longer than
+    /// 65,527 bytes.
     TooManyTags = 5,
     /// 6: a tag is not above the one before it.
     NotAscending = 6,
@@ -63,12 +64,12 @@ pub enum PlaceKind {
     Line,
     /// An index in the list of tags.
     Index,
-    /// A group; from placing and from "place of one tag", which have one, always 0.
+    /// A group; from placing, counting parts and "place of one tag", which have one, always 0.
     Group,
     /// A slot of the image: slot j is line 1 + B + j.
     Slot,
-    /// From building and placing an index in the list of tags, always 0; from checking a slot of the
-    /// image.
+    /// From building, placing and counting parts an index in the list of tags, always 0; from checking a
+    /// slot of the image.
     IndexOrSlot,
 }
 
@@ -180,7 +181,7 @@ impl fmt::Display for Refusal {
             Reason::LimitOutOfRange => write!(f, "the seed limit L is not 1 to 65536"),
             Reason::TooManyTags => write!(
                 f,
-                "a list has more than 4096 tags, a group to be placed more than {LARGEST_GROUP}, \
+                "a list has more than 4096 tags, a group by itself more than {LARGEST_GROUP}, \
                  or a list text more than 65527 bytes"
             ),
             Reason::NotAscending => {

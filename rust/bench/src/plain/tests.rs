@@ -1,11 +1,12 @@
 //! The plain version held against the model: every operation, on whole and damaged texts.
 
 use super::{
-    build, check, lookup, place_group, plan, print, strict_check, tagless, write, LARGEST_GROUP,
+    build, check, count_parts, lookup, place_group, plan, print, serves, serves_by_eviction,
+    serves_by_parts, serves_by_parts_unless_dropped, strict_check, tagless, write, LARGEST_GROUP,
     PLAN_CELLS,
 };
 use model::{
-    answer_build, answer_check, answer_lookup, answer_plan, answer_strict_check,
+    answer_build, answer_check, answer_lookup, answer_parts, answer_plan, answer_strict_check,
     answer_tagless_build, answer_tagless_check, answer_tagless_lookup, answer_write, list_text,
 };
 use random::Random;
@@ -154,6 +155,60 @@ fn small_groups_under_many_seeds() {
         }
     }
     assert!(served > 9_000, "{served}");
+}
+
+/// Counts parts with both versions, and tests the seed in every way; whether it serves.
+fn tested(tags: &[u32], seed: u32) -> bool {
+    let answer = count_parts(tags, seed);
+    assert_eq!(answer, answer_parts(tags, seed), "{tags:?} under {seed}");
+    let serving = answer >> 32 == 0 && answer % 2 == 1;
+    if answer >> 32 == 0 {
+        for test in [
+            serves,
+            serves_by_eviction,
+            serves_by_parts,
+            serves_by_parts_unless_dropped,
+        ] {
+            assert_eq!(test(tags, seed), serving, "{tags:?} under {seed}");
+        }
+    }
+    serving
+}
+
+#[test]
+fn parts_of_groups_of_every_size() {
+    let mut random = Random::new(10);
+    let mut served = 0;
+    for count in 0..=LARGEST_GROUP + 1 {
+        for _ in 0..60 {
+            let tags = match random.below(3) {
+                0 => random.multiples(count, 1 << 20),
+                1 => (1 + random.below(999) as u32..).take(count).collect(),
+                _ => random.tags(count),
+            };
+            for seed in (0..20).chain([65_534, 65_535, 65_536, u32::MAX]) {
+                served += u32::from(tested(&tags, seed));
+            }
+        }
+        let tags = random.tags(count);
+        if let Ok((seed, _)) = model::place_group(&tags, 65_536) {
+            assert!(tested(&tags, seed));
+        }
+    }
+    assert!(served > 3_000, "{served}");
+    for tags in [
+        &[0][..],
+        &[0, 0],
+        &[0, 7, 7],
+        &[5, 5],
+        &[1, 9, 8, 7],
+        &[5; 33],
+        &[0; 33],
+    ] {
+        for seed in [0, 65_535, 65_536] {
+            tested(tags, seed);
+        }
+    }
 }
 
 #[test]

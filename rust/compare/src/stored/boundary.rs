@@ -1,4 +1,4 @@
-//! The cases of `cases_boundary`: the 64-bit answers of the ten functions, for the whole case and for
+//! The cases of `cases_boundary`: the 64-bit answers of the eleven functions, for the whole case and for
 //! refusals of each.
 
 use super::Output;
@@ -43,6 +43,7 @@ pub fn write(output: &mut Output) {
     tagless_builds(output);
     tagless_images(output);
     strict_images(output);
+    parts(output);
 }
 
 /// Plans into cells that all hold 9.
@@ -316,6 +317,20 @@ fn strict_images(output: &mut Output) {
     ];
     for (name, image) in images {
         let answer = model::answer_strict_check(image);
+        output.words(format!("{name}: {answer}\n"));
+    }
+}
+
+fn parts(output: &mut Output) {
+    let groups: [(&str, &[u32], u32); 5] = [
+        ("parts under a seed that serves", &[1, 3], 1),
+        ("parts under a seed that does not", &[1, 3], 0),
+        ("parts of the empty group", &[], 65_535),
+        ("parts, seed 65536", &[1, 3], 65_536),
+        ("parts, tag 5 after tag 9", &[3, 9, 5], 0),
+    ];
+    for (name, tags, seed) in groups {
+        let answer = model::answer_parts(tags, seed);
         output.words(format!("{name}: {answer}\n"));
     }
 }

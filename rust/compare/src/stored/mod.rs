@@ -12,6 +12,7 @@ mod image;
 mod leaf;
 mod list;
 mod long;
+mod parts;
 mod placing;
 mod planning;
 mod printing;
@@ -34,6 +35,7 @@ const PROGRAMS: &[Program] = &[
     ("cases_building", building::write),
     ("cases_image", image::write),
     ("cases_strict", strict::write),
+    ("cases_parts", parts::write),
     ("cases_tagless", tagless::built),
     ("cases_tagless_image", tagless::images),
     ("cases_list", list::write),
