@@ -3,3 +3,4 @@ pub mod Answer
 pub mod Tally
 pub mod TallyLaws
 pub mod ConditionLaws
+pub mod Examples
