@@ -1,8 +1,7 @@
 -- What each call over the C boundary answers. Assumes nothing.
 use Prim.Native.Nat.{ℕ}
-use mathlib.Core.List.{List, [], _∷_}
-use Rattle.refusal.specs.Outcome.{Outcome, answered, refused, answeredBy}
-use Rattle.group.specs.Placing.{Placement, placingOf}
+use mathlib.Core.List.{List}
+use Rattle.refusal.specs.Outcome.{answeredBy}
 use Rattle.image.specs.Checking.{checkingOf}
 use Rattle.image.specs.Lookup.{lookupOf}
 use Rattle.numbering.specs.FromText.{planningFromText, writingFromText, buildingFromText}
@@ -24,14 +23,3 @@ checkAnswer image = answer64 (checkingOf image)
 
 unfoldable pub lookupAnswer : List ℕ → ℕ → ℕ
 lookupAnswer image tag = answer64 (answeredBy foundNumber (lookupOf image tag))
-
--- Placing answers the seed, and leaves the choice word in the one cell that it is lent; "a refusal leaves lent cells as they were".
-unfoldable pub placeAnswer : List ℕ → ℕ → ℕ
-placeAnswer tags limit = answer64 (answeredBy (λ (placed : Placement). placed .seed) (placingOf tags limit))
-
-unfoldable pub cellWith : Outcome Placement → List ℕ → List ℕ
-cellWith (answered placed) before = placed .word ∷ []
-cellWith (refused reason place) before = before
-
-unfoldable pub wordAfter : List ℕ → ℕ → List ℕ → List ℕ
-wordAfter tags limit before = cellWith (placingOf tags limit) before

@@ -4,7 +4,6 @@ pub mod CallsLaws
 pub mod Condition2
 pub mod Condition2Laws
 pub mod Condition3
-pub mod PlaceGroupLaws
 pub mod UnwiredLaws
 pub mod Tagless
 pub mod TaglessLaws

@@ -5,19 +5,20 @@ mod worked;
 use building::BuildAnswer;
 use checking::CheckAnswer;
 use lookup::LookupAnswer;
-use placing::PlacingAnswer;
 use planning::PlanAnswer;
 use writing::WriteAnswer;
 ghost use mathlib.Core.Path.{_≡_};
 ghost use lib.ListN.{length};
 ghost use Rattle.numbering.specs.FromText.{planFromText, writtenFromText, bufferFromText};
-ghost use Rattle.tag_index.specs.Calls.{planAnswer, writeAnswer, buildAnswer, checkAnswer, lookupAnswer, placeAnswer, wordAfter};
+ghost use Rattle.tag_index.specs.Calls.{planAnswer, writeAnswer, buildAnswer, checkAnswer, lookupAnswer};
 ghost use Rattle.tag_index.specs.Condition2.{AnswerCondition2};
 ghost use Rattle.tagless.specs.FromText.{taglessBufferFromText};
 ghost use Rattle.tag_index.specs.Tagless.{taglessBuildAnswer, taglessCheckAnswer, taglessLookupAnswer};
 ghost use Rattle.tag_index.specs.Tagless.{TaglessBuildCondition, TaglessAnswerCondition2};
 ghost use Rattle.tag_index.specs.Strict.{strictCheckAnswer, StrictAnswerCondition};
-ghost use Rattle.tag_index.specs.Condition3.{PlanCondition3, WriteCondition3, BuildCondition3, PlaceCondition3};
+ghost use Rattle.tag_index.specs.Condition3.{PlanCondition3, WriteCondition3, BuildCondition3};
+ghost use Rattle.calls_group.specs.Place.{placeAnswer, wordAfter, PlaceCondition3};
+ghost use Rattle.calls_group.specs.Parts.{partsAnswer, PartsAnswerCondition};
 
 // Builds the image of a list text at the beginning of `image`, and answers its length.
 #[no_mangle]
@@ -101,13 +102,16 @@ pub extern "C" fn tag_index_place_group(tags: &[u32], limit: u32, word: &mut [u3
     ensures cell { λ _. ⌜ now (word .exit) ≡ wordAfter (now (tags .entry)) limit (now (word .entry)) ⌝ }
     ensures condition3 { λ r. ⌜ PlaceCondition3 (now (tags .entry)) limit r (now (word .exit)) ⌝ }
 {
-    match placing::place_group(tags, limit) {
-        PlacingAnswer::Placed(seed, choices) => {
-            *word = [choices];
-            seed as u64
-        }
-        PlacingAnswer::Refused(refusal) => answer64::refusal_answer(refusal),
-    }
+    calls_group::place_group(tags, limit, word)
+}
+
+// Counts the parts of a group's graph under a seed: answers twice their number, and one more if the seed serves.
+#[no_mangle]
+pub extern "C" fn tag_index_parts(tags: &[u32], seed: u32) -> u64
+    ensures answer { λ r. ⌜ r ≡ partsAnswer (now (tags .entry)) seed ⌝ }
+    ensures condition { λ r. ⌜ PartsAnswerCondition (now (tags .entry)) seed r ⌝ }
+{
+    calls_group::count_parts(tags, seed)
 }
 
 // Builds the index without tags of a list text at the beginning of `image`, and answers its length.

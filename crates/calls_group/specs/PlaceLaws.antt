@@ -16,8 +16,7 @@ use Rattle.group.specs.Placing.{Placement, placingChecks, placingOf}
 use Rattle.placing.specs.Condition3Laws.{placing-condition3, answered-checked}
 use Rattle.answer64.specs.Answer64.{answer64}
 use Rattle.answer64.specs.Answer64Laws.{Fits, outcome-answer}
-use Rattle.tag_index.specs.Calls.{placeAnswer, cellWith, wordAfter}
-use Rattle.tag_index.specs.Condition3.{placed64, PlaceCondition3}
+use Rattle.calls_group.specs.Place.{placeAnswer, cellWith, wordAfter, placed64, PlaceCondition3}
 
 -- A refusal names an index of the group, since check 5 comes before check 6, or 0; and has a number.
 pub placing-place : (tags : List ℕ) (limit : ℕ) → PlaceBelow groupMax (placingOf tags limit)

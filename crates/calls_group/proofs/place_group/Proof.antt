@@ -1,4 +1,4 @@
--- `tag_index::tag_index_place_group` meets its contract: the answer and the cell are the outcome's, and a refusal's place is an index.
+-- `calls_group::place_group` meets its contract: the answer and the cell are the outcome's, and a refusal's place is an index.
 -- Assumes nothing.
 use borrow.Author.Needs.{needs}
 use mathlib.Core.Path.{sym, _∙_, ap}
@@ -9,10 +9,10 @@ use Rattle.refusal.specs.PlaceLaws.{place-below}
 use Rattle.placing.specs.Answer.{placingOutcome}
 use Rattle.placing.specs.declared.PlacingAnswer.{PlacingAnswer}
 use Rattle.answer64.specs.Answer64.{answer64}
-use Rattle.tag_index.specs.Calls.{cellWith}
-use Rattle.tag_index.specs.PlaceGroupLaws.{placing-place, seedAnswered, placed-promised}
-use Rattle.tag_index.proofs.tag_index_place_group.Statement.{statement}
-use Rattle.tag_index.proofs.tag_index_place_group.Tie as tie
+use Rattle.calls_group.specs.Place.{cellWith}
+use Rattle.calls_group.specs.PlaceLaws.{placing-place, seedAnswered, placed-promised}
+use Rattle.calls_group.proofs.place_group.Statement.{statement}
+use Rattle.calls_group.proofs.place_group.Tie as tie
 
 refusal-answer-requires : tie.Need-refusal-answer-requires
 refusal-answer-requires c κs =
@@ -42,8 +42,8 @@ returns-2 c =
     (c .refusal-answer .ensures ∙ ap (λ (x : PlacingAnswer). answer64 (seedAnswered (placingOutcome x))) (sym (told .refusal .given .1)))
     (ap (λ (x : PlacingAnswer). cellWith (placingOutcome x) before) (sym (told .refusal .given .1)))
 
-pub tag-index-place-group-spec : {M : Type 1} → statement M
-tag-index-place-group-spec =
+pub place-group-spec : {M : Type 1} → statement M
+place-group-spec =
     tie.close
     (tie.spec
     (λ c κs. search needs)  -- place-group-requires
