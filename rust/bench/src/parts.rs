@@ -54,10 +54,7 @@ fn count(groups: &Groups) -> Row {
         }),
     });
     row(
-        format!(
-            "count parts: {}, a seed that serves and one that does not",
-            groups.title
-        ),
+        format!("count parts, two seeds each: {}", groups.title),
         measure(tested.len(), versions.collect()),
     )
 }
