@@ -54,10 +54,7 @@ fn count(groups: &Groups) -> Row {
         }),
     });
     row(
-        format!(
-            "count parts: {}, a seed that serves and one that does not",
-            groups.title
-        ),
+        format!("count parts, two seeds each: {}", groups.title),
         measure(tested.len(), versions.collect()),
     )
 }
@@ -101,7 +98,7 @@ const PLAIN_TESTS: [(&str, Test); 4] = [
 
 /// The time of one seed by each test, on the same groups and the same seeds.
 pub fn print_beside() {
-    println!("\nThe second test of a seed beside the first: the time of one seed. Placing, with L so that it tries exactly these seeds, makes the first test of each and checks the tags once for all of them; where the seed serves it finds the choice word too. Counting parts is called for each seed, and checks the tags each time. In plain Rust, without these checks: the first test drops a seed early or evicts, the second joins parts.");
+    println!("\nThe second test of a seed beside the first: the time of one seed. Placing, with L so that it tries exactly these seeds, makes the first test of each and checks the tags once for all of them; where the seed serves it finds the choice word too. Counting parts is called for each seed, and checks the tags each time. In plain Rust, without these checks: the first test drops a seed early or evicts, the second joins parts until one has too many tags.");
     let mut rows = Vec::new();
     for tested in cases::failing()
         .iter()

@@ -429,8 +429,9 @@ impl Tally {
 
     /// Counts the parts of a group that was made or drawn for it.
     pub fn parts_of_made(&mut self, tags: &[u32], seed: u32) -> u64 {
-        self.parts.made += 1;
-        self.count_parts(tags, seed)
+        let answer = self.count_parts(tags, seed);
+        self.parts.made += u64::from(answer >> 32 == 0);
+        answer
     }
 
     /// Places a group, and says by counting parts that the seed found serves and that no lower one does;
