@@ -151,7 +151,7 @@ module _ (keys : List Key) where
 
     -- So the seed serves exactly where no label has more edges than points.
     module _ (below : EachCandidate (λ x. x < n) keys) where
-      served-labels : partsOf n keys .serves ≡ true → (r : ℕ) → edgesWith keys r ≤ pointsWith n keys r
+      pub served-labels : partsOf n keys .serves ≡ true → (r : ℕ) → edgesWith keys r ≤ pointsWith n keys r
       served-labels e r = go (decLt 0 (edgesWith keys r))
         where
           go : Dec (0 < edgesWith keys r) → edgesWith keys r ≤ pointsWith n keys r

@@ -7,6 +7,8 @@ use lib.Dec.{eqb}
 use lib.ListN.{getD}
 use Rattle.refusal.specs.Limits.{groupMax}
 use Rattle.filling.specs.Filling.{Key, placeBy, EachCandidate}
+use Rattle.lists.specs.UpTo.{upTo}
+use Rattle.graph.specs.HowMany.{howMany}
 use Rattle.graph.specs.Label.{labelsOf}
 use Rattle.places.specs.Array.{Candidates, keysOf}
 
@@ -17,6 +19,14 @@ labelled labels label v = eqb (getD labels v 0) label
 -- Have both places of a key this label?
 abbrev pub bothLabelled : List ℕ → ℕ → Key → Bool
 bothLabelled labels label key = labelled labels label (placeBy false key) && labelled labels label (placeBy true key)
+
+-- For each label, how many of a list pass a test that names it.
+unfoldable pub byLabel : {A : Type 0} → (ℕ → A → Bool) → List A → List ℕ
+byLabel test xs = upTo groupMax (λ label. howMany (test label) xs)
+
+-- The labels of the first n places are places.
+abbrev pub LabelsBelow : List ℕ → ℕ → Type 0
+LabelsBelow labels n = (v : ℕ) → v < n → getD labels v 0 < groupMax
 
 -- Is a place its own label?
 abbrev pub ownLabel : List ℕ → ℕ → Bool

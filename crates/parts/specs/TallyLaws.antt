@@ -1,18 +1,20 @@
 -- What is counted by the labels in an array is counted by the parts of the graph. Assumes nothing.
 use Prim.Native.Nat.{ℕ, _+_, _≤_, _<_}
 use mathlib.Core.Path.{_≡_, refl, sym, _∙_, ap}
-use mathlib.Core.Bool.{Bool, true, false, _&&_, and-self, not, false≢true}
+use mathlib.Core.Logic.{_≢_}
+use mathlib.Core.Bool.{Bool, true, false, _&&_, and-self, and-false, not}
 use mathlib.Core.List.{List}
-use mathlib.Core.Option.{Option, none, some}
 use native.Mathlib.Decide.{ℕ-discrete}
 use native.Mathlib.Omega.{arith}
 use lib.Dec.{eqb}
-use lib.ListN.{getD}
-use borrow.Author.Tests.{lt-ltb, le-ltb}
+use lib.ListN.{length, getD, set, replicate, length-set, length-replicate, getD-replicate}
+use lib.Seq.{getD-set-same, getD-set-other, ext-getD}
+use borrow.Author.Tests.{eq-eqb, ne-eqb, le-ltb}
 use Rattle.refusal.specs.Limits.{groupMax}
 use Rattle.lists.specs.UpTo.{upTo}
+use Rattle.lists.specs.UpToLaws.{upTo-length, upTo-at, upTo-agree}
 use Rattle.lists.specs.First.{first, isSome}
-use Rattle.lists.specs.FirstLaws.{first-none, first-out, isSome-of-none, isSome-of-some}
+use Rattle.lists.specs.FirstLaws.{first-out, isSome-of-none}
 use Rattle.filling.specs.Filling.{Key, placeBy}
 use Rattle.filling.specs.Separate.{keyPlace}
 use Rattle.graph.specs.HowMany.{howMany}
@@ -22,10 +24,24 @@ use Rattle.graph.specs.Label.{label}
 use Rattle.graph.specs.ConnectedLaws.{key-label}
 use Rattle.graph.specs.MergeLaws.{pointsWith, edgesWith}
 use Rattle.graph.specs.NumberLaws.{label-again, label-below, root}
-use Rattle.graph.specs.PartLaws.{points-labelled, edges-labelled, lowest-roots}
+use Rattle.graph.specs.PartLaws.{points-labelled, edges-labelled, served-labels, lowest-roots}
 use Rattle.places.specs.Array.{keysOf}
 use Rattle.labels.specs.LabelsLaws.{labels-at}
-use Rattle.parts.specs.Tally.{labelled, bothLabelled, ownLabel, Graphed}
+use Rattle.parts.specs.Tally.{labelled, bothLabelled, ownLabel, byLabel, LabelsBelow, Graphed}
+
+-- Two labels are one exactly for the label that both are.
+pub both-same : (x y : ℕ) → y ≡ x → (eqb x x && eqb y x) ≡ true
+both-same x y same = rw (eq-eqb x x refl, eq-eqb y x same)
+
+pub both-other : (x y r : ℕ) → r ≢ x → (eqb x r && eqb y r) ≡ false
+both-other x y r other = rw (ne-eqb x r (λ e. other (sym e)))
+
+pub both-never : (x y r : ℕ) → y ≢ x → (eqb x r && eqb y r) ≡ false
+both-never x y r different = go (ℕ-discrete r x)
+  where
+    go : Dec (r ≡ x) → (eqb x r && eqb y r) ≡ false
+    go (yes same) = rw (ne-eqb y r (λ e. different (e ∙ same))) (and-false (eqb x r))
+    go (no other) = both-other x y r other
 
 -- A loop over the indices below n has come to i, and has counted those before it that pass.
 pub record Tallied {A : Type 0} (test : A → Bool) (f : ℕ → A) (n count i : ℕ) : Type 0 where
@@ -49,31 +65,64 @@ module _ {A : Type 0} (test : A → Bool) (f : ℕ → A) (n : ℕ) where
     pub tallied-done : n ≤ i → count ≡ howMany test (upTo n f)
     tallied-done ge = let all : i ≡ n = omega (arith, t .upto) in rw all at (t .counted)
 
--- Where a test is passed below a limit, there is a first.
-first-exists : (test : ℕ → Bool) (limit k : ℕ) → k < limit → test k ≡ true → isSome (first test limit) ≡ true
-first-exists test limit k lt passes = go (first test limit) refl
-  where
-    go : (o : Option ℕ) → first test limit ≡ o → isSome (first test limit) ≡ true
-    go none e = absurd (false≢true (sym (first-none test limit e k lt) ∙ passes))
-    go (some j) e = isSome-of-some e
+-- Such a loop that counts for each label.
+pub record Counted {A : Type 0} (test : ℕ → A → Bool) (f : ℕ → A) (n : ℕ) (counts : List ℕ) (i : ℕ) : Type 0 where
+  pub upto : i ≤ n
+  pub counted : counts ≡ byLabel test (upTo i f)
 
--- No place below v that is its own label has more edges than points counted for it.
-abbrev pub Fine : List ℕ → List ℕ → ℕ → ℕ → Type 0
-Fine places labels n v =
-    (u : ℕ) → u < v → getD labels u 0 ≡ u → howMany (bothLabelled labels u) (keysOf n places) ≤ howMany (labelled labels u) (points n)
+module _ {A : Type 0} (test : ℕ → A → Bool) (f : ℕ → A) (n : ℕ) where
+  -- At first none,
+  pub counted-start : (counts : List ℕ) → counts ≡ replicate groupMax 0 → Counted test f n counts 0
+  unfolding byLabel
+  counted-start counts zeros = record {
+    upto = omega arith;
+    counted = zeros ∙ ext-getD 0 (replicate groupMax 0) _ (length-replicate {A = ℕ} groupMax 0 ∙ sym (upTo-length groupMax _)) (λ r lt.
+        let below : r < groupMax = omega (arith, length-replicate {A = ℕ} groupMax 0) in
+        getD-replicate groupMax r 0 0 below ∙ sym (upTo-at groupMax _ 0 r below ∙ howMany-empty (test r) f));
+  }
 
-module _ (places labels : List ℕ) (n : ℕ) where
-  pub fine-start : Fine places labels n 0
-  fine-start u lt own = absurd (omega arith)
+  module _ {counts : List ℕ} {i : ℕ} (c : Counted test f n counts i) where
+    pub counted-length : length counts ≡ groupMax
+    unfolding byLabel
+    counted-length = ap length (c .counted) ∙ upTo-length groupMax _
 
-  pub fine-turn : (v : ℕ) → Fine places labels n v
-      → (getD labels v 0 ≡ v → howMany (bothLabelled labels v) (keysOf n places) ≤ howMany (labelled labels v) (points n))
-      → Fine places labels n (v + 1)
-  fine-turn v fine here u lt own = go (ℕ-discrete u v)
-    where
-      go : Dec (u ≡ v) → howMany (bothLabelled labels u) (keysOf n places) ≤ howMany (labelled labels u) (points n)
-      go (yes same) = rw same (here (rw same at own))
-      go (no other) = fine u (omega (arith, other)) own
+    counted-at : (r : ℕ) → r < groupMax → getD counts r 0 ≡ howMany (test r) (upTo i f)
+    unfolding byLabel
+    counted-at r lt = ap (λ l. getD l r 0) (c .counted) ∙ upTo-at groupMax _ 0 r lt
+
+    pub counted-most : (r : ℕ) → r < groupMax → getD counts r 0 ≤ i
+    counted-most r lt = omega (arith, counted-at r lt, howMany-most (test r) f i)
+
+    -- then one more for the one label that it passes for,
+    pub counted-one : (label : ℕ) → i < n → label < groupMax → test label (f i) ≡ true → ((r : ℕ) → r ≢ label → test r (f i) ≡ false)
+        → Counted test f n (set counts label (getD counts label 0 + 1)) (i + 1)
+    unfolding byLabel
+    counted-one label inside below passes others = record {
+      upto = omega arith;
+      counted = ext-getD 0 _ _ (length-set counts label _ ∙ counted-length ∙ sym (upTo-length groupMax _)) (λ r lt.
+          let within : r < groupMax = omega (arith, length-set counts label (getD counts label 0 + 1), counted-length) in
+          go r within (ℕ-discrete r label) ∙ sym (upTo-at groupMax _ 0 r within));
+    }
+      where
+        go : (r : ℕ) → r < groupMax → Dec (r ≡ label)
+            → getD (set counts label (getD counts label 0 + 1)) r 0 ≡ howMany (test r) (upTo (i + 1) f)
+        go r lt (yes same) =
+            rw same
+            (getD-set-same counts label _ 0 (omega (arith, counted-length))
+            ∙ omega (arith, counted-at label below, howMany-passes (test label) f i passes))
+        go r lt (no other) =
+            getD-set-other counts label r _ 0 other ∙ omega (arith, counted-at r lt, howMany-fails (test r) f i (others r other))
+
+    -- or for none.
+    pub counted-none : i < n → ((r : ℕ) → test r (f i) ≡ false) → Counted test f n counts (i + 1)
+    unfolding byLabel
+    counted-none inside fails = record {
+      upto = omega arith;
+      counted = c .counted ∙ upTo-agree groupMax _ _ (λ r lt. sym (howMany-fails (test r) f i (fails r)));
+    }
+
+    pub counted-done : n ≤ i → counts ≡ byLabel test (upTo n f)
+    counted-done ge = let all : i ≡ n = omega (arith, c .upto) in rw all at (c .counted)
 
 module _ {places labels : List ℕ} {n : ℕ} (g : Graphed places labels n) where
   abbrev keys : List Key
@@ -101,28 +150,39 @@ module _ {places labels : List ℕ} {n : ℕ} (g : Graphed places labels n) wher
       points-same (ownLabel labels) (root keys) n (λ v lt. ap (λ (z : ℕ). eqb z v) (label-at v lt))
       ∙ sym (lowest-roots n keys (g .below))
 
-  -- The place v has its part's edges and points counted, where it is its own label.
-  module _ (v : ℕ) (lt : v < n) (own : getD labels v 0 ≡ v) where
-    itself : label keys v ≡ v
-    itself = sym (label-at v lt) ∙ own
+  pub labels-below : LabelsBelow labels groupMax
+  labels-below v lt =
+      let under = label-below groupMax keys (λ i inside choice. omega (arith, g .below i inside choice, g .few)) v lt in
+      omega (arith, ap (λ l. getD l v 0) (g .labels-are), labels-at groupMax keys v lt)
 
-    pub counted-more : howMany (labelled labels v) (points n) < howMany (bothLabelled labels v) keys
-        → isSome (first (moreEdges n keys) n) ≡ true
+  -- Counted by label, some label has more edges than points exactly where some part has.
+  module _ {counted edged : List ℕ} (p : counted ≡ byLabel (labelled labels) (points n)) (e : edged ≡ byLabel (bothLabelled labels) keys) where
+    counted-label : (r : ℕ) → r < n → (getD counted r 0 ≡ pointsWith n keys r) × (getD edged r 0 ≡ edgesWith keys r)
+    unfolding byLabel
+    counted-label r lt =
+        let below : r < groupMax = omega (arith, g .few) in (
+          ap (λ l. getD l r 0) p ∙ upTo-at groupMax _ 0 r below ∙ tally-points r,
+          ap (λ l. getD l r 0) e ∙ upTo-at groupMax _ 0 r below ∙ tally-edges r,
+        )
+
+    pub more-found : (v : ℕ) → v < n → getD counted v 0 < getD edged v 0 → isSome (first (moreEdges n keys) n) ≡ true
+    unfolding partsOf
+    more-found v lt has = go (isSome (first (moreEdges n keys) n)) refl
+      where
+        go : (b : Bool) → isSome (first (moreEdges n keys) n) ≡ b → isSome (first (moreEdges n keys) n) ≡ true
+        go true t = t
+        go false t =
+            let (ps, es) = counted-label v lt in
+            absurd (omega (arith, served-labels keys n (g .below) (rw t) v))
+
+    pub more-none : ((v : ℕ) → v < n → getD edged v 0 ≤ getD counted v 0) → isSome (first (moreEdges n keys) n) ≡ false
     unfolding moreEdges
-    counted-more more =
-        first-exists (moreEdges n keys) n v lt
-        (lt-ltb (partPoints n keys v) (partEdges keys v)
-        (rw (points-labelled keys n v, edges-labelled keys n v, itself) (omega (arith, tally-points v, tally-edges v))))
-
-  -- Where no place has, no part has: each place has the label of one that is its own.
-  pub fine-done : Fine places labels n n → isSome (first (moreEdges n keys) n) ≡ false
-  unfolding moreEdges
-  fine-done fine = isSome-of-none (first-out (moreEdges n keys) n (λ v lt.
-      let r = label keys v in
-      let below = label-below n keys (g .below) v lt in
-      let own = label-at r below ∙ label-again keys v in
-      le-ltb (partPoints n keys v) (partEdges keys v)
-      (omega (arith, points-labelled keys n v, edges-labelled keys n v, fine r below own, tally-points r, tally-edges r))))
+    more-none fine = isSome-of-none (first-out (moreEdges n keys) n (λ v lt.
+        let r = label keys v in
+        let below = label-below n keys (g .below) v lt in
+        let (ps, es) = counted-label r below in
+        le-ltb (partPoints n keys v) (partEdges keys v)
+        (omega (arith, points-labelled keys n v, edges-labelled keys n v, fine r below))))
 
   -- So the answer is what the parts of the graph say.
   pub parts-counted : (number : ℕ) (more : Bool) → number ≡ howMany (ownLabel labels) (points n)

@@ -8,7 +8,7 @@ use refusal::Reason;
 use refusal::Refusal;
 ghost use mathlib.Core.Path.{_≡_};
 ghost use Prim.Native.Nat.{_≤_};
-ghost use lib.ListN.{length};
+ghost use lib.ListN.{length, replicate};
 ghost use Rattle.refusal.specs.Limits.{groupMax, seedMax};
 ghost use Rattle.refusal.specs.Outcome.{answered, refused};
 ghost use Rattle.refusal.specs.Reason.{reasonNumber};
@@ -20,7 +20,7 @@ ghost use Rattle.graph.specs.Parts.{points, moreEdges, partsOf};
 ghost use Rattle.parts_condition.specs.Condition.{PartsCondition};
 ghost use Rattle.parts.specs.Answer.{partsOutcome};
 ghost use Rattle.parts.specs.Counting.{countingOf};
-ghost use Rattle.parts.specs.Tally.{labelled, bothLabelled, ownLabel, Graphed};
+ghost use Rattle.parts.specs.Tally.{labelled, bothLabelled, ownLabel, byLabel, LabelsBelow, Graphed};
 
 // Whether the seed serves the group, with the number of parts; or refused.
 pub enum PartsAnswer {
@@ -90,7 +90,7 @@ fn part_count(labels: &[u8; MEMBER_CELLS], n: usize) -> u32
     count
 }
 
-// Has any part more edges than points?
+// Has any part more edges than points? Both are counted for each label; where it is no part's, both are 0.
 fn has_more_edges(
     places: &[u32; places::PLACE_CELLS],
     labels: &[u8; MEMBER_CELLS],
@@ -99,56 +99,51 @@ fn has_more_edges(
     requires { ⌜ Graphed (now places) (now labels) n ⌝ }
     ensures answer { λ r. ⌜ r ≡ isSome (first (moreEdges n (keysOf n (now (places .entry)))) n) ⌝ }
 {
+    let mut points = [0u8; MEMBER_CELLS];
+    count_points(labels, n, &mut points);
+    let mut edges = [0u8; MEMBER_CELLS];
+    count_edges(places, labels, n, &mut edges);
     let mut v = 0;
     while v < n {
-        let label = v as u8;
-        if labels[v] == label {
-            let points = point_count(labels, n, label);
-            let edges = edge_count(places, labels, n, label);
-            if points < edges {
-                return true;
-            }
+        if points[v] < edges[v] {
+            return true;
         }
         v += 1;
     }
     false
 }
 
-// How many of the n places have this label.
-fn point_count(labels: &[u8; MEMBER_CELLS], n: usize, label: u8) -> u32
-    requires { ⌜ n ≤ groupMax ⌝ }
-    ensures answer { λ r. ⌜ r ≡ howMany (labelled (now (labels .entry)) label) (points n) ⌝ }
+// For each label, how many of the n places have it.
+fn count_points(labels: &[u8; MEMBER_CELLS], n: usize, counts: &mut [u8; MEMBER_CELLS])
+    requires { ⌜ (n ≤ groupMax) × LabelsBelow (now labels) groupMax × (now counts ≡ replicate groupMax 0) ⌝ }
+    ensures cells { λ _. ⌜ now (counts .exit) ≡ byLabel (labelled (now (labels .entry))) (points n) ⌝ }
 {
-    let mut count = 0;
     let mut v = 0;
     while v < n {
-        if labels[v] == label {
-            count += 1;
-        }
+        let label = labels[v] as usize;
+        counts[label] += 1;
         v += 1;
     }
-    count
 }
 
-// How many of the n tags have this label at both places.
-fn edge_count(
+// For each label, how many of the n tags have it at both places. A tag's places lie in one part, whether they are different or equal.
+fn count_edges(
     places: &[u32; places::PLACE_CELLS],
     labels: &[u8; MEMBER_CELLS],
     n: usize,
-    label: u8,
-) -> u32
-    requires { ⌜ (n ≤ groupMax) × Candidates (now places) n ⌝ }
-    ensures answer { λ r. ⌜ r ≡ howMany (bothLabelled (now (labels .entry)) label) (keysOf n (now (places .entry))) ⌝ }
+    counts: &mut [u8; MEMBER_CELLS],
+)
+    requires { ⌜ (n ≤ groupMax) × Candidates (now places) n × LabelsBelow (now labels) groupMax × (now counts ≡ replicate groupMax 0) ⌝ }
+    ensures cells { λ _. ⌜ now (counts .exit) ≡ byLabel (bothLabelled (now (labels .entry))) (keysOf n (now (places .entry))) ⌝ }
 {
-    let mut count = 0;
     let mut i = 0;
     while i < n {
         let first = places[i] as usize;
         let second = places[MEMBER_CELLS + i] as usize;
-        if (labels[first] == label) & (labels[second] == label) {
-            count += 1;
+        let label = labels[first];
+        if labels[second] == label {
+            counts[label as usize] += 1;
         }
         i += 1;
     }
-    count
 }

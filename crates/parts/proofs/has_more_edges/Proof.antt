@@ -1,49 +1,49 @@
--- `parts::has_more_edges` meets its contract: no place before has more edges than points counted for it, and each part has a place that
--- is its own label. Assumes nothing.
-use Prim.Native.Nat.{_-_, _≤_}
-use mathlib.Core.Path.{_≡_, sym}
-use mathlib.Core.Logic.{⊎-elim}
+-- `parts::has_more_edges` meets its contract: no label before has more edges than points, and each part has its label. Assumes nothing.
+use Prim.Native.Nat.{ℕ, _-_, _≤_, _<_}
+use mathlib.Core.Path.{_≡_, refl, sym}
 use native.Mathlib.Omega.{arith}
+use lib.ListN.{getD}
+use borrow.Author.Count.{below-more}
 use borrow.Author.Needs.{needs}
-use Rattle.parts.specs.TallyLaws.{Fine, fine-start, fine-turn, fine-done, counted-more}
+use Rattle.parts.specs.TallyLaws.{labels-below, more-found, more-none}
 use Rattle.parts.proofs.has_more_edges.Statement.{statement}
 use Rattle.parts.proofs.has_more_edges.Tie as tie
 
 abbrev Inv-loop : tie.InvT-loop
-Inv-loop places labels n v₀ v = (v ≤ n) × Fine places labels n v
+Inv-loop places labels n points edges v₀ v = (v ≤ n) × ((u : ℕ) → u < v → getD edges u 0 ≤ getD points u 0)
 
 abbrev μ-loop : tie.MeasureT-loop
-μ-loop places labels n v₀ v = n - v
+μ-loop places labels n points edges v₀ v = n - v
+
+count-points-requires : tie.Need-count-points-requires Inv-loop μ-loop
+count-points-requires c κs = (c .before .pre .few, labels-below (c .before .pre), refl)
+
+count-edges-requires : tie.Need-count-edges-requires Inv-loop μ-loop
+count-edges-requires c κs =
+    let g = c .before .before .before .pre in
+    (g .few, g .stated, labels-below g, refl)
 
 loop-holds : tie.Need-loop-holds Inv-loop μ-loop
-loop-holds c =
-    let a = c .args in
-    (omega arith, fine-start (a .places .now) (a .labels .now) (a .n))
+loop-holds c = (omega arith, λ u lt. absurd (omega arith))
 
 returns : tie.Need-returns Inv-loop μ-loop
 returns c =
-    let own = c .before .before .before in
-    let turn = own .before .before in
-    let start = turn .before .before in
-    sym (counted-more (start .pre) (turn .before .loop .v) (turn .loop-test .taken) (own .if1 .taken)
-    (omega (arith, c .before .before .point-count .ensures, c .before .edge-count .ensures, c .if2 .taken)))
+    let turn = c .before in
+    let edged = turn .before .before in
+    let pointed = edged .before .before in
+    sym (more-found (pointed .before .before .pre) (pointed .count-points .ensures) (edged .count-edges .ensures) (turn .before .loop .v)
+    (turn .loop-test .taken) (c .if1 .taken))
 
 loop-again : tie.Need-loop-again Inv-loop μ-loop
-loop-again c =
-    let at = c .before .before .before in
-    let a = at .before .args in (
-      omega arith,
-      fine-turn (a .places .now) (a .labels .now) (a .n) (at .loop .v) (at .loop .inv .1)
-          (⊎-elim (λ w own. omega (arith, w .1 .ensures, w .2 .ensures, w .3 .left)) (λ w own. absurd (w .left own)) (c .if1 .came)),
-    )
+loop-again c = (omega arith, below-more _ _ (c .before .before .loop .inv .1) (c .if1 .left))
 
 returns-2 : tie.Need-returns-2 Inv-loop μ-loop
 returns-2 c =
     let at = c .before in
-    let start = at .before in
-    let all : at .loop .v ≡ start .args .n = omega arith in
-    let fine : Fine (start .args .places .now) (start .args .labels .now) (start .args .n) (start .args .n) = rw all at (at .loop .inv .1) in
-    sym (fine-done (start .pre) fine)
+    let edged = at .before in
+    let pointed = edged .before .before in
+    sym (more-none (pointed .before .before .pre) (pointed .count-points .ensures) (edged .count-edges .ensures)
+    (λ v lt. at .loop .inv .1 v (omega arith)))
 
 pub has-more-edges-spec : {M : Type 1} → statement M
 has-more-edges-spec =
@@ -51,11 +51,11 @@ has-more-edges-spec =
     (tie.spec
     Inv-loop
     μ-loop
+    count-points-requires
+    count-edges-requires
     loop-holds
-    (λ c. search needs)  -- cast-label
-    (λ c. search needs)  -- element-copy-out-if1
-    (λ c κs. search needs)  -- point-count-requires
-    (λ c κs. search needs)  -- edge-count-requires
+    (λ c. search needs)  -- array-read-if1
+    (λ c. search needs)  -- array-read-if1-2
     returns
     (λ c. search needs)  -- add-v
     (λ c. search needs)  -- loop-less
