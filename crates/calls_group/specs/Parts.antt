@@ -7,7 +7,7 @@ use Rattle.refusal.specs.Outcome.{Outcome, answeredBy}
 use Rattle.graph.specs.HowMany.{one}
 use Rattle.graph.specs.Parts.{Parts}
 use Rattle.parts_condition.specs.Condition.{PartsCondition}
-use Rattle.parts.specs.Counting.{countingOf}
+use Rattle.counting.specs.Counting.{countingOf}
 use Rattle.answer64.specs.Answer64.{answer64, outcome64}
 
 -- "2 × the number of parts, plus 1 if the seed serves"

@@ -20,8 +20,8 @@ use Rattle.graph.specs.HowMany.{one}
 use Rattle.graph.specs.HowManyLaws.{howMany-most}
 use Rattle.graph.specs.Parts.{lowest, Parts, partsOf}
 use Rattle.parts_condition.specs.Condition.{PartsChecks}
-use Rattle.parts.specs.Counting.{countingChecks, countingOf}
-use Rattle.parts.specs.ConditionLaws.{counting-condition}
+use Rattle.counting.specs.Counting.{countingChecks, countingOf}
+use Rattle.counting.specs.ConditionLaws.{counting-condition}
 use Rattle.answer64.specs.Answer64.{answer64, outcome64}
 use Rattle.answer64.specs.Answer64Laws.{Fits, outcome-answer}
 use Rattle.calls_group.specs.Parts.{partsNumber, partsAnswer, partsIn, parts64, PartsAnswerCondition}

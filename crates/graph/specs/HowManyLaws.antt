@@ -113,6 +113,15 @@ points-same test other (suc n) agree =
 pub points-none : (test : ℕ → Bool) (n : ℕ) → ((v : ℕ) → v < n → test v ≡ false) → howMany test (points n) ≡ 0
 points-none test n never = points-same test (λ _. false) n never ∙ howMany-none (λ _. false) (points n) (λ _. refl)
 
+-- A point that passes is counted.
+pub points-some : (test : ℕ → Bool) (n v : ℕ) → v < n → test v ≡ true → 0 < howMany test (points n)
+points-some test zero v lt e = absurd (omega arith)
+points-some test (suc n) v lt e = go (ℕ-discrete v n) (λ below. points-some test n v below e)
+  where
+    go : Dec (v ≡ n) → (v < n → 0 < howMany test (points n)) → 0 < howMany test (points (suc n))
+    go (yes same) lower = omega (arith, howMany-more test (λ u. u) n, one-true (rw same at e))
+    go (no different) lower = omega (arith, howMany-more test (λ u. u) n, lower (omega (arith, different)))
+
 -- Tests that differ at one point.
 pub points-change : (test other : ℕ → Bool) (n v : ℕ) → v < n → ((u : ℕ) → u ≢ v → test u ≡ other u)
     → howMany test (points n) + one (other v) ≡ howMany other (points n) + one (test v)

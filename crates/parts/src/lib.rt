@@ -8,19 +8,15 @@ use refusal::Reason;
 use refusal::Refusal;
 ghost use mathlib.Core.Path.{_≡_};
 ghost use Prim.Native.Nat.{_≤_};
-ghost use lib.ListN.{length, replicate};
+ghost use lib.ListN.{length};
 ghost use Rattle.refusal.specs.Limits.{groupMax, seedMax};
 ghost use Rattle.refusal.specs.Outcome.{answered, refused};
 ghost use Rattle.refusal.specs.Reason.{reasonNumber};
-ghost use Rattle.lists.specs.First.{first, isSome};
-ghost use Rattle.places.specs.Array.{Candidates, keysOf};
 ghost use Rattle.group.specs.Group.{groupUnder};
-ghost use Rattle.graph.specs.HowMany.{howMany};
-ghost use Rattle.graph.specs.Parts.{points, moreEdges, partsOf};
+ghost use Rattle.graph.specs.Parts.{partsOf};
 ghost use Rattle.parts_condition.specs.Condition.{PartsCondition};
 ghost use Rattle.parts.specs.Answer.{partsOutcome};
-ghost use Rattle.parts.specs.Counting.{countingOf};
-ghost use Rattle.parts.specs.Tally.{labelled, bothLabelled, ownLabel, byLabel, LabelsBelow, Graphed};
+ghost use Rattle.counting.specs.Counting.{countingOf};
 
 // Whether the seed serves the group, with the number of parts; or refused.
 pub enum PartsAnswer {
@@ -56,7 +52,7 @@ pub fn count_parts(tags: &[u32], seed: u32) -> PartsAnswer
     parts_under(tags, seed)
 }
 
-// The parts of a group's graph under a seed.
+// The parts of a group's graph under a seed: its places are the points, its tags the edges.
 fn parts_under(tags: &[u32], seed: u32) -> PartsAnswer
     requires { ⌜ (length (now tags) ≤ groupMax) × (seed ≤ seedMax) ⌝ }
     ensures answer { λ r. ⌜ partsOutcome r ≡ answered (partsOf (length (now (tags .entry))) (groupUnder (now (tags .entry)) seed)) ⌝ }
@@ -66,84 +62,14 @@ fn parts_under(tags: &[u32], seed: u32) -> PartsAnswer
     candidates::candidate_places(tags, n as u32, seed, &mut places);
     let mut labels = [0u8; MEMBER_CELLS];
     labels::part_labels(&places, n as u32, &mut labels);
-    let parts = part_count(&labels, n);
-    if has_more_edges(&places, &labels, n) {
+    let mut points = [0u8; MEMBER_CELLS];
+    tally::count_points(&labels, n, &mut points);
+    let mut edges = [0u8; MEMBER_CELLS];
+    tally::count_edges(&places, &labels, n, &mut edges);
+    let parts = tally::part_count(&points, n);
+    if tally::has_more_edges(&points, &edges, n) {
         PartsAnswer::DoesNotServe(parts)
     } else {
         PartsAnswer::Serves(parts)
-    }
-}
-
-// How many parts there are: each has one place that is its own label. A place that no tag has is a part by itself.
-fn part_count(labels: &[u8; MEMBER_CELLS], n: usize) -> u32
-    requires { ⌜ n ≤ groupMax ⌝ }
-    ensures answer { λ r. ⌜ r ≡ howMany (ownLabel (now (labels .entry))) (points n) ⌝ }
-{
-    let mut count = 0;
-    let mut v = 0;
-    while v < n {
-        if labels[v] == v as u8 {
-            count += 1;
-        }
-        v += 1;
-    }
-    count
-}
-
-// Has any part more edges than points? Both are counted for each label; where it is no part's, both are 0.
-fn has_more_edges(
-    places: &[u32; places::PLACE_CELLS],
-    labels: &[u8; MEMBER_CELLS],
-    n: usize,
-) -> bool
-    requires { ⌜ Graphed (now places) (now labels) n ⌝ }
-    ensures answer { λ r. ⌜ r ≡ isSome (first (moreEdges n (keysOf n (now (places .entry)))) n) ⌝ }
-{
-    let mut points = [0u8; MEMBER_CELLS];
-    count_points(labels, n, &mut points);
-    let mut edges = [0u8; MEMBER_CELLS];
-    count_edges(places, labels, n, &mut edges);
-    let mut v = 0;
-    while v < n {
-        if points[v] < edges[v] {
-            return true;
-        }
-        v += 1;
-    }
-    false
-}
-
-// For each label, how many of the n places have it.
-fn count_points(labels: &[u8; MEMBER_CELLS], n: usize, counts: &mut [u8; MEMBER_CELLS])
-    requires { ⌜ (n ≤ groupMax) × LabelsBelow (now labels) groupMax × (now counts ≡ replicate groupMax 0) ⌝ }
-    ensures cells { λ _. ⌜ now (counts .exit) ≡ byLabel (labelled (now (labels .entry))) (points n) ⌝ }
-{
-    let mut v = 0;
-    while v < n {
-        let label = labels[v] as usize;
-        counts[label] += 1;
-        v += 1;
-    }
-}
-
-// For each label, how many of the n tags have it at both places. A tag's places lie in one part, whether they are different or equal.
-fn count_edges(
-    places: &[u32; places::PLACE_CELLS],
-    labels: &[u8; MEMBER_CELLS],
-    n: usize,
-    counts: &mut [u8; MEMBER_CELLS],
-)
-    requires { ⌜ (n ≤ groupMax) × Candidates (now places) n × LabelsBelow (now labels) groupMax × (now counts ≡ replicate groupMax 0) ⌝ }
-    ensures cells { λ _. ⌜ now (counts .exit) ≡ byLabel (bothLabelled (now (labels .entry))) (keysOf n (now (places .entry))) ⌝ }
-{
-    let mut i = 0;
-    while i < n {
-        let first = places[i] as usize;
-        let second = places[MEMBER_CELLS + i] as usize;
-        let label = labels[first];
-        if labels[second] == label {
-            counts[label as usize] += 1;
-        }
-        i += 1;
     }
 }

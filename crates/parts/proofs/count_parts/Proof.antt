@@ -11,8 +11,8 @@ use Rattle.refusal.specs.Checks.{Check, Pass}
 use Rattle.refusal.specs.ChecksLaws.{met-true, met-false, metBy, checksBefore, passed-on, met-first, inOrder-pass}
 use Rattle.graph.specs.Parts.{Parts}
 use Rattle.parts_condition.specs.Condition.{PartsCondition}
-use Rattle.parts.specs.Counting.{countingChecks, countingOf}
-use Rattle.parts.specs.ConditionLaws.{promised}
+use Rattle.counting.specs.Counting.{countingChecks, countingOf}
+use Rattle.counting.specs.ConditionLaws.{promised}
 use Rattle.parts.proofs.count_parts.Statement.{statement}
 use Rattle.parts.proofs.count_parts.Tie as tie
 

@@ -12,8 +12,8 @@ use Rattle.group.specs.GroupLaws.{group-below}
 use Rattle.places.specs.Array.{Candidates, keysOf}
 use Rattle.candidates.specs.LaidLaws.{group-candidates, group-keys}
 use Rattle.graph.specs.Parts.{partsOf}
-use Rattle.parts.specs.Tally.{Graphed}
-use Rattle.parts.specs.TallyLaws.{parts-counted}
+use Rattle.tally.specs.Tally.{Graphed}
+use Rattle.tally.specs.TallyLaws.{labels-below, parts-counted}
 use Rattle.parts.proofs.parts_under.Statement.{statement}
 use Rattle.parts.proofs.parts_under.Tie as tie
 
@@ -47,19 +47,39 @@ graphed c =
       labels-are = c .part-labels .ensures;
     }
 
+-- The steps behind one another: the labels are there once the points are counted, these once the edges are.
+abbrev labelled : tie.After-count-points → tie.After-part-labels
+labelled c = c .before .before .before
+
+abbrev pointed : tie.After-count-edges → tie.After-count-points
+pointed c = c .before .before .before .before
+
+count-points-requires : tie.Need-count-points-requires
+count-points-requires c κs = let g = graphed (c .before .before) in (g .few, labels-below g, refl)
+
+count-edges-requires : tie.Need-count-edges-requires
+count-edges-requires c κs =
+    let g = graphed (labelled (c .before .before .before)) in
+    (g .few, g .stated, labels-below g, refl)
+
+part-count-requires : tie.Need-part-count-requires
+part-count-requires c κs = graphed (labelled (pointed (c .before))) .few
+
 has-more-edges-requires : tie.Need-has-more-edges-requires
-has-more-edges-requires c κs = graphed (c .before .before .before .before)
+has-more-edges-requires c κs = graphed (labelled (pointed (c .before .before .before .before))) .few
 
 -- Both counts together.
 counted : (c : tie.After-has-more-edges) (more : Bool) → c .has-more-edges .result ≡ more
-    → (let start = entry (c .before .before .before .before .before .before .before .before) in
+    → (let start = entry (labelled (pointed (c .before .before .before .before .before)) .before .before .before) in
     answered (record { serves = not more; number = c .before .before .before .part-count .result })
     ≡ answered (partsOf (length (start .args .tags .now)) (groupUnder (start .args .tags .now) (start .args .seed))))
 counted c more e =
     let parts = c .before .before .before in
-    let labelled = parts .before .before in
-    let laid = labelled .before .before .before in
-    ap answered (parts-counted (graphed labelled) _ more (parts .part-count .ensures) (sym e ∙ c .has-more-edges .ensures)
+    let edged = parts .before .before in
+    let points = pointed edged in
+    let laid = labelled points .before .before .before in
+    ap answered (parts-counted (graphed (labelled points)) (points .count-points .ensures) (edged .count-edges .ensures) _ more
+    (parts .part-count .ensures) (sym e ∙ c .has-more-edges .ensures)
     ∙ ap (partsOf (length (entry laid .args .tags .now))) (keys-are laid))
 
 returns : tie.Need-returns
@@ -76,7 +96,9 @@ parts-under-spec =
     (λ c κs. search needs)  -- candidate-places-requires
     (λ c. search needs)  -- cast-part-labels
     part-labels-requires
-    (λ c κs. search needs)  -- part-count-requires
+    count-points-requires
+    count-edges-requires
+    part-count-requires
     has-more-edges-requires
     returns
     returns-2)

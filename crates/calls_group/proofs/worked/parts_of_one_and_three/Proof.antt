@@ -4,7 +4,7 @@ use borrow.Author.Needs.{needs}
 use mathlib.Core.Path.{_∙_}
 use Rattle.refusal.specs.Outcome.{answeredBy}
 use Rattle.graph.specs.HowMany.{one}
-use Rattle.parts.specs.Examples.{untouched-place}
+use Rattle.counting.specs.Examples.{untouched-place}
 use Rattle.answer64.specs.Answer64.{answer64}
 use Rattle.calls_group.specs.Parts.{partsNumber, partsAnswer}
 use Rattle.calls_group.proofs.worked.parts_of_one_and_three.Statement.{statement}

@@ -7,8 +7,8 @@ use mathlib.Core.List.{[], _∷_}
 use Prim.Native.Nat.{ℕ}
 use Rattle.refusal.specs.Outcome.{answered}
 use Rattle.graph.specs.Parts.{Parts}
-use Rattle.parts.specs.Counting.{countingOf}
-use Rattle.parts.specs.Examples.{untouched-place}
+use Rattle.counting.specs.Counting.{countingOf}
+use Rattle.counting.specs.Examples.{untouched-place}
 use Rattle.parts.proofs.worked.parts_of_one_and_three.Statement.{statement}
 use Rattle.parts.proofs.worked.parts_of_one_and_three.Tie as tie
 

@@ -23,7 +23,7 @@ use Rattle.graph.specs.Parts.{Parts, partsOf}
 use Rattle.graph.specs.PartLaws.{serves-parts, serves-fills, parts-are, parts-unique}
 use Rattle.graph.specs.GraphTheorem.{sequences-counted}
 use Rattle.parts_condition.specs.Condition.{PartsChecks, Counted, PartsCondition}
-use Rattle.parts.specs.Counting.{countingChecks, countingOf}
+use Rattle.counting.specs.Counting.{countingChecks, countingOf}
 
 module _ (tags : List ℕ) (seed : ℕ) where
   abbrev keys : List Key

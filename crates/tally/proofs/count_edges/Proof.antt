@@ -1,4 +1,4 @@
--- `parts::count_edges` meets its contract: a turn counts one tag more for the label of both its places. Assumes nothing.
+-- `tally::count_edges` meets its contract: a turn counts one tag more for the label of both its places. Assumes nothing.
 use Prim.Native.Nat.{_-_, _<_}
 use mathlib.Core.Logic.{⊎-elim}
 use mathlib.Core.Bool.{Bool, true, false}
@@ -8,11 +8,11 @@ use borrow.Author.Needs.{needs}
 use Rattle.refusal.specs.Limits.{groupMax}
 use Rattle.filling.specs.Filling.{placeBy}
 use Rattle.places.specs.Array.{entryOf, keyAt, keysOf}
-use Rattle.parts.specs.Tally.{bothLabelled}
-use Rattle.parts.specs.TallyLaws.{Counted, counted-start, counted-most, counted-one, counted-none, counted-done}
-use Rattle.parts.specs.TallyLaws.{both-same, both-other, both-never}
-use Rattle.parts.proofs.count_edges.Statement.{statement}
-use Rattle.parts.proofs.count_edges.Tie as tie
+use Rattle.tally.specs.Tally.{bothLabelled}
+use Rattle.tally.specs.TallyLaws.{Counted, counted-start, counted-most, counted-one, counted-none, counted-done}
+use Rattle.tally.specs.TallyLaws.{both-same, both-other, both-never}
+use Rattle.tally.proofs.count_edges.Statement.{statement}
+use Rattle.tally.proofs.count_edges.Tie as tie
 
 abbrev Inv-loop : tie.InvT-loop
 Inv-loop places labels n counts₀ i₀ counts i = Counted (bothLabelled labels) (keyAt places) n counts i

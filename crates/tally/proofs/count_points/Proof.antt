@@ -1,4 +1,4 @@
--- `parts::count_points` meets its contract: a turn counts one place more for its label. Assumes nothing.
+-- `tally::count_points` meets its contract: a turn counts one place more for its label. Assumes nothing.
 use Prim.Native.Nat.{_-_, _<_}
 use mathlib.Core.Path.{refl, sym}
 use native.Mathlib.Omega.{arith}
@@ -6,10 +6,10 @@ use lib.ListN.{getD}
 use borrow.Author.Needs.{needs}
 use borrow.Author.Tests.{eq-eqb, ne-eqb}
 use Rattle.refusal.specs.Limits.{groupMax}
-use Rattle.parts.specs.Tally.{labelled}
-use Rattle.parts.specs.TallyLaws.{Counted, counted-start, counted-most, counted-one, counted-done}
-use Rattle.parts.proofs.count_points.Statement.{statement}
-use Rattle.parts.proofs.count_points.Tie as tie
+use Rattle.tally.specs.Tally.{labelled}
+use Rattle.tally.specs.TallyLaws.{Counted, counted-start, counted-most, counted-one, counted-done}
+use Rattle.tally.proofs.count_points.Statement.{statement}
+use Rattle.tally.proofs.count_points.Tie as tie
 
 abbrev Inv-loop : tie.InvT-loop
 Inv-loop labels n counts₀ v₀ counts v = Counted (labelled labels) (λ u. u) n counts v

@@ -4,21 +4,23 @@ use mathlib.Core.Path.{_≡_, refl, sym, _∙_, ap}
 use mathlib.Core.Logic.{_≢_}
 use mathlib.Core.Bool.{Bool, true, false, _&&_, and-self, and-false, not}
 use mathlib.Core.List.{List}
+use mathlib.Core.Option.{Option, none, some}
 use native.Mathlib.Decide.{ℕ-discrete}
 use native.Mathlib.Omega.{arith}
 use lib.Dec.{eqb}
 use lib.ListN.{length, getD, set, replicate, length-set, length-replicate, getD-replicate}
 use lib.Seq.{getD-set-same, getD-set-other, ext-getD}
-use borrow.Author.Tests.{eq-eqb, ne-eqb, le-ltb}
+use borrow.Author.Tests.{eq-eqb, ne-eqb, ltb-true, ltb-false, lt-ltb, le-ltb}
 use Rattle.refusal.specs.Limits.{groupMax}
 use Rattle.lists.specs.UpTo.{upTo}
 use Rattle.lists.specs.UpToLaws.{upTo-length, upTo-at, upTo-agree}
 use Rattle.lists.specs.First.{first, isSome}
-use Rattle.lists.specs.FirstLaws.{first-out, isSome-of-none}
+use Rattle.lists.specs.FirstLaws.{first-some, first-none, first-out, isSome-of-some, isSome-of-none}
 use Rattle.filling.specs.Filling.{Key, placeBy}
 use Rattle.filling.specs.Separate.{keyPlace}
 use Rattle.graph.specs.HowMany.{howMany}
-use Rattle.graph.specs.HowManyLaws.{howMany-at, howMany-map, points-same, howMany-empty, howMany-most, howMany-passes, howMany-fails}
+use Rattle.graph.specs.HowManyLaws.{points-same, points-none, points-some}
+use Rattle.graph.specs.HowManyLaws.{howMany-at, howMany-map, howMany-empty, howMany-most, howMany-passes, howMany-fails}
 use Rattle.graph.specs.Parts.{points, partPoints, partEdges, moreEdges, lowest, partsOf}
 use Rattle.graph.specs.Label.{label}
 use Rattle.graph.specs.ConnectedLaws.{key-label}
@@ -27,7 +29,7 @@ use Rattle.graph.specs.NumberLaws.{label-again, label-below, root}
 use Rattle.graph.specs.PartLaws.{points-labelled, edges-labelled, served-labels, lowest-roots}
 use Rattle.places.specs.Array.{keysOf}
 use Rattle.labels.specs.LabelsLaws.{labels-at}
-use Rattle.parts.specs.Tally.{labelled, bothLabelled, ownLabel, byLabel, LabelsBelow, Graphed}
+use Rattle.tally.specs.Tally.{labelled, bothLabelled, byLabel, LabelsBelow, positive, more, Graphed}
 
 -- Two labels are one exactly for the label that both are.
 pub both-same : (x y : ℕ) → y ≡ x → (eqb x x && eqb y x) ≡ true
@@ -144,12 +146,6 @@ module _ {places labels : List ℕ} {n : ℕ} (g : Graphed places labels n) wher
       ) (and-self (eqb (label keys (keyPlace keys i false)) r)))
       ∙ sym (howMany-map (placeBy false) (λ v. eqb (label keys v) r) keys)
 
-  -- A place that is its own label stands for a part: there are as many as parts.
-  pub tally-parts : howMany (ownLabel labels) (points n) ≡ howMany (lowest keys) (points n)
-  tally-parts =
-      points-same (ownLabel labels) (root keys) n (λ v lt. ap (λ (z : ℕ). eqb z v) (label-at v lt))
-      ∙ sym (lowest-roots n keys (g .below))
-
   pub labels-below : LabelsBelow labels groupMax
   labels-below v lt =
       let under = label-below groupMax keys (λ i inside choice. omega (arith, g .below i inside choice, g .few)) v lt in
@@ -165,7 +161,25 @@ module _ {places labels : List ℕ} {n : ℕ} (g : Graphed places labels n) wher
           ap (λ l. getD l r 0) e ∙ upTo-at groupMax _ 0 r below ∙ tally-edges r,
         )
 
-    pub more-found : (v : ℕ) → v < n → getD counted v 0 < getD edged v 0 → isSome (first (moreEdges n keys) n) ≡ true
+    -- A label that some place has is the label of itself, and stands for a part: there are as many as parts.
+    positive-root : (r : ℕ) → r < n → positive counted r ≡ root keys r
+    positive-root r lt = go (ℕ-discrete (label keys r) r)
+      where
+        go : Dec (label keys r ≡ r) → positive counted r ≡ root keys r
+        go (yes own) =
+            let (ps, es) = counted-label r lt in
+            let itself = points-some (λ v. eqb (label keys v) r) n r lt (eq-eqb (label keys r) r own) in
+            lt-ltb 0 (getD counted r 0) (omega arith) ∙ sym (eq-eqb (label keys r) r own)
+        go (no other) =
+            let (ps, es) = counted-label r lt in
+            let absent = points-none (λ v. eqb (label keys v) r) n (λ v _. ne-eqb (label keys v) r (λ e. other
+            (ap (label keys) (sym e) ∙ label-again keys v ∙ e))) in
+            le-ltb 0 (getD counted r 0) (omega arith) ∙ sym (ne-eqb (label keys r) r other)
+
+    tally-number : howMany (positive counted) (points n) ≡ howMany (lowest keys) (points n)
+    tally-number = points-same (positive counted) (root keys) n positive-root ∙ sym (lowest-roots n keys (g .below))
+
+    more-found : (v : ℕ) → v < n → getD counted v 0 < getD edged v 0 → isSome (first (moreEdges n keys) n) ≡ true
     unfolding partsOf
     more-found v lt has = go (isSome (first (moreEdges n keys) n)) refl
       where
@@ -175,7 +189,7 @@ module _ {places labels : List ℕ} {n : ℕ} (g : Graphed places labels n) wher
             let (ps, es) = counted-label v lt in
             absurd (omega (arith, served-labels keys n (g .below) (rw t) v))
 
-    pub more-none : ((v : ℕ) → v < n → getD edged v 0 ≤ getD counted v 0) → isSome (first (moreEdges n keys) n) ≡ false
+    more-none : ((v : ℕ) → v < n → getD edged v 0 ≤ getD counted v 0) → isSome (first (moreEdges n keys) n) ≡ false
     unfolding moreEdges
     more-none fine = isSome-of-none (first-out (moreEdges n keys) n (λ v lt.
         let r = label keys v in
@@ -184,8 +198,19 @@ module _ {places labels : List ℕ} {n : ℕ} (g : Graphed places labels n) wher
         le-ltb (partPoints n keys v) (partEdges keys v)
         (omega (arith, points-labelled keys n v, edges-labelled keys n v, fine r below))))
 
-  -- So the answer is what the parts of the graph say.
-  pub parts-counted : (number : ℕ) (more : Bool) → number ≡ howMany (ownLabel labels) (points n)
-      → more ≡ isSome (first (moreEdges n keys) n) → record { serves = not more; number = number } ≡ partsOf n keys
-  unfolding partsOf
-  parts-counted number more n-is m-is = rw (m-is, n-is, tally-parts)
+    tally-more : isSome (first (more counted edged) n) ≡ isSome (first (moreEdges n keys) n)
+    tally-more = go (first (more counted edged) n) refl
+      where
+        go : (o : Option ℕ) → first (more counted edged) n ≡ o → isSome (first (more counted edged) n) ≡ isSome (first (moreEdges n keys) n)
+        go none out =
+            isSome-of-none out
+            ∙ sym (more-none (λ v lt. ltb-false (getD counted v 0) (getD edged v 0) (first-none (more counted edged) n out v lt)))
+        go (some v) found =
+            let at = first-some (more counted edged) n found in
+            isSome-of-some found ∙ sym (more-found v (at .below) (ltb-true (getD counted v 0) (getD edged v 0) (at .holds)))
+
+    -- So the answer is what the parts of the graph say.
+    pub parts-counted : (number : ℕ) (b : Bool) → number ≡ howMany (positive counted) (points n)
+        → b ≡ isSome (first (more counted edged) n) → record { serves = not b; number = number } ≡ partsOf n keys
+    unfolding partsOf
+    parts-counted number b n-is m-is = rw (m-is, n-is, tally-number, tally-more)

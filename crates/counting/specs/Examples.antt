@@ -18,7 +18,7 @@ use Rattle.group.specs.Unwired.{startsUnwired}
 use Rattle.graph.specs.HowMany.{one, howMany}
 use Rattle.graph.specs.Graph.{connected}
 use Rattle.graph.specs.Parts.{partPoints, partEdges, moreEdges, lowest, partsOf}
-use Rattle.parts.specs.Counting.{countingChecks, countingOf}
+use Rattle.counting.specs.Counting.{countingChecks, countingOf}
 
 -- `unfolding computed` opens every definition that these compute through.
 unfoldable pub computed : ℕ

@@ -3,7 +3,7 @@ use Prim.Native.Nat.{ℕ, _≤_, _<_}
 use mathlib.Core.Path.{_≡_}
 use mathlib.Core.Bool.{Bool, true, false, _&&_}
 use mathlib.Core.List.{List}
-use lib.Dec.{eqb}
+use lib.Dec.{eqb, ltb}
 use lib.ListN.{getD}
 use Rattle.refusal.specs.Limits.{groupMax}
 use Rattle.filling.specs.Filling.{Key, placeBy, EachCandidate}
@@ -28,9 +28,12 @@ byLabel test xs = upTo groupMax (λ label. howMany (test label) xs)
 abbrev pub LabelsBelow : List ℕ → ℕ → Type 0
 LabelsBelow labels n = (v : ℕ) → v < n → getD labels v 0 < groupMax
 
--- Is a place its own label?
-abbrev pub ownLabel : List ℕ → ℕ → Bool
-ownLabel labels v = labelled labels v v
+-- Is the count for a label not 0, and is one count greater than another?
+abbrev pub positive : List ℕ → ℕ → Bool
+positive counts v = ltb 0 (getD counts v 0)
+
+abbrev pub more : List ℕ → List ℕ → ℕ → Bool
+more points edges v = ltb (getD points v 0) (getD edges v 0)
 
 -- Arrays of the candidate places of n keys on n places and of the labels of all places.
 pub record Graphed (places labels : List ℕ) (n : ℕ) : Type 0 where
