@@ -38,6 +38,10 @@ five-before-six : countingOf tooMany seedMax ≡ refused 5 0
 unfolding computed
 five-before-six = refl
 
+two-before-six : countingOf (0 ∷ 0 ∷ []) (suc seedMax) ≡ refused 2 0
+unfolding computed
+two-before-six = refl
+
 -- Tag 0 twice.
 six-before-seventeen : countingOf (0 ∷ 0 ∷ []) seedMax ≡ refused 6 1
 unfolding computed

@@ -13,3 +13,4 @@ pub mod NumberLaws
 pub mod ListedLaws
 pub mod PartLaws
 pub mod GraphTheorem
+pub mod Examples

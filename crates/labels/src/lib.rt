@@ -35,10 +35,10 @@ fn merge(labels: &mut [u8; MEMBER_CELLS], into: u8, from: u8)
     requires { ⌜ length (now labels) ≡ groupMax ⌝ }
     ensures cells { λ _. ⌜ now (labels .exit) ≡ map (merged into from) (now (labels .entry)) ⌝ }
 {
-    let mut v = 0;
-    while v < MEMBER_CELLS {
-        labels[v] = merged(labels[v], into, from);
-        v += 1;
+    let mut cell = 0;
+    while cell < MEMBER_CELLS {
+        labels[cell] = merged(labels[cell], into, from);
+        cell += 1;
     }
 }
 
