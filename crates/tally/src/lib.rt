@@ -16,11 +16,11 @@ pub fn count_points(labels: &[u8; MEMBER_CELLS], n: usize, counts: &mut [u8; MEM
     requires { ⌜ (n ≤ groupMax) × LabelsBelow (now labels) groupMax × (now counts ≡ replicate groupMax 0) ⌝ }
     ensures cells { λ _. ⌜ now (counts .exit) ≡ byLabel (labelled (now (labels .entry))) (points n) ⌝ }
 {
-    let mut v = 0;
-    while v < n {
-        let label = labels[v] as usize;
+    let mut place = 0;
+    while place < n {
+        let label = labels[place] as usize;
         counts[label] += 1;
-        v += 1;
+        place += 1;
     }
 }
 

@@ -67,11 +67,11 @@ cast-second c = omega (arith, below (c .before .before) true)
 
 element-copy-out-into : tie.Need-element-copy-out-into Inv-loop μ-loop Inv-loop2 μ-loop2
 unfolding entryOf
-element-copy-out-into c = below (c .before .before) false
+element-copy-out-into c = omega (arith, below (c .before .before) false, below (c .before .before) true)
 
 element-copy-out-from : tie.Need-element-copy-out-from Inv-loop μ-loop Inv-loop2 μ-loop2
 unfolding entryOf
-element-copy-out-from c = below (c .before .before .before) true
+element-copy-out-from c = omega (arith, below (c .before .before .before) false, below (c .before .before .before) true)
 
 merge-requires : tie.Need-merge-requires Inv-loop μ-loop Inv-loop2 μ-loop2
 merge-requires c κs =

@@ -12,14 +12,14 @@ use Rattle.tally.proofs.count_points.Statement.{statement}
 use Rattle.tally.proofs.count_points.Tie as tie
 
 abbrev Inv-loop : tie.InvT-loop
-Inv-loop labels n counts₀ v₀ counts v = Counted (labelled labels) (λ u. u) n counts v
+Inv-loop labels n counts₀ place₀ counts place = Counted (labelled labels) (λ u. u) n counts place
 
 abbrev μ-loop : tie.MeasureT-loop
-μ-loop labels n counts₀ v₀ counts v = n - v
+μ-loop labels n counts₀ place₀ counts place = n - place
 
 -- In a turn the label of the place has a cell.
-below : (c : tie.In-loop Inv-loop μ-loop) → getD (c .before .before .args .labels .now) (c .before .loop .v) 0 < groupMax
-below c = c .before .before .pre .1 (c .before .loop .v) (omega (arith, c .before .before .pre .0))
+below : (c : tie.In-loop Inv-loop μ-loop) → getD (c .before .before .args .labels .now) (c .before .loop .place) 0 < groupMax
+below c = c .before .before .pre .1 (c .before .loop .place) (omega (arith, c .before .before .pre .0))
 
 loop-holds : tie.Need-loop-holds Inv-loop μ-loop
 loop-holds c = counted-start _ _ _ _ (c .pre .2)
@@ -43,7 +43,7 @@ loop-again : tie.Need-loop-again Inv-loop μ-loop
 loop-again c =
     let turn = c .before .before in
     let at = turn .before in
-    let label = getD (at .before .args .labels .now) (at .loop .v) 0 in
+    let label = getD (at .before .args .labels .now) (at .loop .place) 0 in
     counted-one _ _ _ (at .loop .inv) label (turn .loop-test .taken) (below turn) (eq-eqb label label refl)
     (λ r other. ne-eqb label r (λ e. other (sym e)))
 
@@ -62,7 +62,7 @@ count-points-spec =
     element-copy-out-counts
     add-counts
     element-write-counts
-    (λ c. search needs)  -- add-v
+    (λ c. search needs)  -- add-place
     (λ c. search needs)  -- loop-less
     loop-again
     returns)
