@@ -1,6 +1,6 @@
--- The place of a refusal of planning, writing and building from a list text is below the number of lines that a text may have.
--- Assumes nothing.
-use mathlib.Core.Path.{_≡_}
+-- The place of a refusal of planning, writing and building from a list text is below the number of lines that a text may have, and
+-- reading's refusals have a number. Assumes nothing.
+use mathlib.Core.Path.{_≡_, refl}
 use mathlib.Core.List.{List, [], _∷_}
 use mathlib.Core.Option.{none}
 use Prim.Native.Nat.{ℕ, _≤_}
@@ -12,7 +12,7 @@ use Rattle.refusal.specs.Limits.{textMax, tagsMax, groupsMax, outside}
 use Rattle.refusal.specs.LimitsLaws.{inside}
 use Rattle.refusal.specs.Checks.{met}
 use Rattle.refusal.specs.ChecksLaws.{_then_, false-of-met, passed, checksBefore}
-use Rattle.refusal.specs.PlaceLaws.{PlaceBelow, below-checks, below-followed, met-below, first-below}
+use Rattle.refusal.specs.PlaceLaws.{PlaceBelow, below-checks, below-followed, met-below, first-below, Numbered, numbered-checks}
 use Rattle.list.specs.Reading.{lineCount, readingChecks, readingOf}
 use Rattle.numbering.specs.Plan.{plannedGroups}
 use Rattle.numbering.specs.Planning.{earlierChecks, planningChecks, planningOf}
@@ -81,6 +81,11 @@ list-place text =
     below-checks textLines ((5, met (ltb textMax (length text))) ∷ []) (readingOf text tagsMax)
     ((λ _. met-below textLines _ (omega arith)) then tt)
     (λ short. reading-place text (ltb-false textMax (length text) (false-of-met _ (short .0))))
+
+-- Every refusal of reading has a number.
+pub list-numbered : (text : List ℕ) → Numbered (listFromText text)
+unfolding listFromText readingOf readingChecks
+list-numbered text = numbered-checks _ (readingOf text tagsMax) refl (numbered-checks (readingChecks text tagsMax) _ refl tt)
 
 -- The place of a refusal of planning, of writing and of building from a list text.
 pub plan-text-place : (text : List ℕ) → PlaceBelow textLines (planningFromText text)

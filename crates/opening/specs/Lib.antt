@@ -3,3 +3,4 @@ pub mod OpenedLaws
 pub mod Opening
 pub mod OpeningLaws
 pub mod Answer
+pub mod PlaceLaws

@@ -5,13 +5,12 @@ use mathlib.Core.List.{List, [], _∷_}
 use Prim.Native.Nat.{ℕ, _<_}
 use native.Mathlib.Omega.{arith}
 use lib.Dec.{eqb}
-use Rattle.refusal.specs.Limits.{tagEnd, tagsMax, unwired}
+use Rattle.refusal.specs.Limits.{tagEnd, unwired}
 use Rattle.refusal.specs.Outcome.{Outcome, answered, refused, answeredBy}
 use Rattle.refusal.specs.OutcomeLaws.{answered-of-followed}
 use Rattle.lists.specs.First.{metAt, isSome}
 use Rattle.refusal.specs.ChecksLaws.{inOrder-answered}
 use Rattle.refusal.specs.PlaceLaws.{Numbered, numbered-checks, numbered-followed, numbered-cond}
-use Rattle.list.specs.Reading.{readingChecks, readingOf}
 use Rattle.hash.specs.Formula.{groupOf}
 use Rattle.image.specs.View.{View, viewOf, groupsIn, startIn, endIn, slotLineIn, slotIn}
 use Rattle.image.specs.Checking.{openingChecks, numberChecks, checkingChecks, checkingOf}
@@ -26,17 +25,13 @@ use Rattle.numbering.specs.WritingLaws.{written-most}
 use Rattle.numbering.specs.Building.{buildingOf}
 use Rattle.numbering.specs.BuildingLaws.{answered-most}
 use Rattle.numbering.specs.FromText.{listFromText, planningFromText, writingFromText, buildingFromText}
-use Rattle.from_text.specs.PlaceLaws.{textLines, plan-text-place, write-text-place, from-text-place}
+use Rattle.from_text.specs.PlaceLaws.{textLines, plan-text-place, write-text-place, from-text-place, list-numbered}
 use Rattle.answer64.specs.Answer64.{foundNumber}
 use Rattle.answer64.specs.Answer64Laws.{Fits, fits-of, answers-apart, SlotFound, found-fits, found-apart}
 use Rattle.tag_index.specs.Calls.{planAnswer, writeAnswer, buildAnswer, checkAnswer, lookupAnswer}
-use Rattle.tag_index.specs.PlaceLaws.{imageLines, checking-place, lookup-place}
+use Rattle.opening.specs.PlaceLaws.{imageLines, checking-place, lookup-place}
 
 -- Every refusal of planning, of writing and of building from a text has a number, B is at most 512, and a length at most 50,699.
-pub list-numbered : (text : List ℕ) → Numbered (listFromText text)
-unfolding listFromText readingOf readingChecks
-list-numbered text = numbered-checks _ (readingOf text tagsMax) refl (numbered-checks (readingChecks text tagsMax) _ refl tt)
-
 planning-numbered : (tags : List ℕ) (groups limit : ℕ) → Numbered (planningOf tags groups limit)
 unfolding planningOf planningChecks earlierChecks
 planning-numbered tags groups limit = numbered-checks (planningChecks tags groups limit) _ refl tt

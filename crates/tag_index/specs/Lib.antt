@@ -1,11 +1,6 @@
 pub mod Calls
-pub mod PlaceLaws
 pub mod CallsLaws
 pub mod Condition2
 pub mod Condition2Laws
 pub mod Condition3
 pub mod UnwiredLaws
-pub mod Tagless
-pub mod TaglessLaws
-pub mod Strict
-pub mod StrictLaws

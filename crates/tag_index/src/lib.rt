@@ -1,7 +1,5 @@
 // The C boundary: operations as functions that C and Rust link, each with one 64-bit answer. A slice is passed as a pointer and a
 // length, a reference to an array as a pointer.
-mod worked;
-
 use building::BuildAnswer;
 use checking::CheckAnswer;
 use lookup::LookupAnswer;
@@ -13,9 +11,9 @@ ghost use Rattle.numbering.specs.FromText.{planFromText, writtenFromText, buffe
 ghost use Rattle.tag_index.specs.Calls.{planAnswer, writeAnswer, buildAnswer, checkAnswer, lookupAnswer};
 ghost use Rattle.tag_index.specs.Condition2.{AnswerCondition2};
 ghost use Rattle.tagless.specs.FromText.{taglessBufferFromText};
-ghost use Rattle.tag_index.specs.Tagless.{taglessBuildAnswer, taglessCheckAnswer, taglessLookupAnswer};
-ghost use Rattle.tag_index.specs.Tagless.{TaglessBuildCondition, TaglessAnswerCondition2};
-ghost use Rattle.tag_index.specs.Strict.{strictCheckAnswer, StrictAnswerCondition};
+ghost use Rattle.calls_tagless.specs.Tagless.{taglessBuildAnswer, taglessCheckAnswer, taglessLookupAnswer};
+ghost use Rattle.calls_tagless.specs.Tagless.{TaglessBuildCondition, TaglessAnswerCondition2};
+ghost use Rattle.calls_strict.specs.Strict.{strictCheckAnswer, StrictAnswerCondition};
 ghost use Rattle.tag_index.specs.Condition3.{PlanCondition3, WriteCondition3, BuildCondition3};
 ghost use Rattle.calls_group.specs.Place.{placeAnswer, wordAfter, PlaceCondition3};
 ghost use Rattle.calls_group.specs.Parts.{partsAnswer, PartsAnswerCondition};
@@ -76,10 +74,7 @@ pub extern "C" fn tag_index_strict_check(image: &[u8]) -> u64
     ensures answer { λ r. ⌜ r ≡ strictCheckAnswer (now (image .entry)) ⌝ }
     ensures condition { λ r. ⌜ StrictAnswerCondition (now (image .entry)) r ⌝ }
 {
-    match strict_checking::strict_check(image) {
-        CheckAnswer::Accepted => 0,
-        CheckAnswer::Refused(refusal) => answer64::refusal_answer(refusal),
-    }
+    calls_strict::strict_check(image)
 }
 
 // Looks a tag up in an image, and answers its number.
@@ -121,10 +116,7 @@ pub extern "C" fn tag_index_tagless_build(text: &[u8], image: &mut [u8]) -> u64
     ensures bytes { λ _. ⌜ now (image .exit) ≡ taglessBufferFromText (now (text .entry)) (now (image .entry)) ⌝ }
     ensures condition { λ r. ⌜ TaglessBuildCondition (now (text .entry)) (now (image .entry)) r (now (image .exit)) ⌝ }
 {
-    match tagless_from_text::build_from_text(text, image) {
-        BuildAnswer::Built(size) => size as u64,
-        BuildAnswer::Refused(refusal) => answer64::refusal_answer(refusal),
-    }
+    calls_tagless::build(text, image)
 }
 
 // Checks an index without tags, and answers 0 for one that is accepted.
@@ -132,10 +124,7 @@ pub extern "C" fn tag_index_tagless_build(text: &[u8], image: &mut [u8]) -> u64
 pub extern "C" fn tag_index_tagless_check(image: &[u8]) -> u64
     ensures answer { λ r. ⌜ r ≡ taglessCheckAnswer (now (image .entry)) ⌝ }
 {
-    match tagless_checking::tagless_check(image) {
-        CheckAnswer::Accepted => 0,
-        CheckAnswer::Refused(refusal) => answer64::refusal_answer(refusal),
-    }
+    calls_tagless::check(image)
 }
 
 // Looks a tag up in an index without tags, and answers its number; a tag that was not listed has one too.
@@ -144,11 +133,7 @@ pub extern "C" fn tag_index_tagless_lookup(image: &[u8], tag: u32) -> u64
     ensures answer { λ r. ⌜ r ≡ taglessLookupAnswer (now (image .entry)) tag ⌝ }
     ensures checked { λ r. ⌜ TaglessAnswerCondition2 (now (image .entry)) tag r ⌝ }
 {
-    match tagless_lookup::tagless_lookup(image, tag) {
-        LookupAnswer::Number(j) => j as u64,
-        LookupAnswer::Unknown => UNKNOWN,
-        LookupAnswer::Refused(refusal) => answer64::refusal_answer(refusal),
-    }
+    calls_tagless::lookup(image, tag)
 }
 
 // What a tag that the image does not have answers.

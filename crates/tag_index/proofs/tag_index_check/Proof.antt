@@ -7,7 +7,7 @@ use Rattle.checking.specs.Answer.{checkOutcome}
 use Rattle.refusal.specs.PlaceLaws.{place-below}
 use Rattle.answer64.specs.Answer64.{answer64}
 use Rattle.tag_index.specs.Calls.{checkAnswer}
-use Rattle.tag_index.specs.PlaceLaws.{imageLines, checking-place}
+use Rattle.opening.specs.PlaceLaws.{imageLines, checking-place}
 use Rattle.tag_index.proofs.tag_index_check.Statement.{statement}
 use Rattle.tag_index.proofs.tag_index_check.Tie as tie
 

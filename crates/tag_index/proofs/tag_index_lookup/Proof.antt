@@ -11,7 +11,7 @@ use Rattle.refusal.specs.PlaceLaws.{place-below}
 use Rattle.answer64.specs.Answer64.{answer64, foundNumber}
 use Rattle.tag_index.specs.Calls.{lookupAnswer}
 use Rattle.tag_index.specs.Condition2Laws.{answered-condition2}
-use Rattle.tag_index.specs.PlaceLaws.{imageLines, lookup-place}
+use Rattle.opening.specs.PlaceLaws.{imageLines, lookup-place}
 use Rattle.tag_index.proofs.tag_index_lookup.Statement.{statement}
 use Rattle.tag_index.proofs.tag_index_lookup.Tie as tie
 

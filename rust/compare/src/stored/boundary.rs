@@ -1,5 +1,5 @@
-//! The cases of `cases_boundary`: the 64-bit answers of the eleven functions, for the whole case and for
-//! refusals of each.
+//! The cases of `cases_boundary` and `cases_boundary_text`: the 64-bit answers of the eleven functions, for the
+//! whole case and for refusals of each.
 
 use super::Output;
 use crate::groups::PATH;
@@ -11,6 +11,16 @@ const FIVE_TAGS: &[u8] =
     b"    2    9\n         1\n         2\n         3\n         4\n         5\n";
 
 pub fn write(output: &mut Output) {
+    images(output);
+    groups(output);
+    tagless_builds(output);
+    tagless_images(output);
+    strict_images(output);
+    parts(output);
+}
+
+/// Building, planning and writing.
+pub fn from_texts(output: &mut Output) {
     let texts: [(&str, &[u8]); 9] = [
         ("whole case", WHOLE_CASE),
         ("no bytes", b""),
@@ -38,12 +48,6 @@ pub fn write(output: &mut Output) {
     plans(output);
     writing(output);
     long_texts(output);
-    images(output);
-    groups(output);
-    tagless_builds(output);
-    tagless_images(output);
-    strict_images(output);
-    parts(output);
 }
 
 /// Plans into cells that all hold 9.

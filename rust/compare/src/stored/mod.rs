@@ -42,6 +42,7 @@ const PROGRAMS: &[Program] = &[
     ("cases_long", long::write),
     ("cases_printing", printing::write),
     ("cases_boundary", boundary::write),
+    ("cases_boundary_text", boundary::from_texts),
 ];
 
 /// What a program writes, as the crate `report` lets the proved programs write it.

@@ -1,0 +1,2 @@
+pub mod Tagless
+pub mod TaglessLaws
