@@ -27,7 +27,7 @@ use Rattle.places.specs.Array.{entryOf, Candidates, keysOf}
 use Rattle.places.specs.ArrayLaws.{entry-other, entry-part, candidates-fewer}
 use Rattle.insertion.specs.Answer.{insertedMeaning}
 use Rattle.insertion.specs.TakenWordLaws.{lightest-word, word-lightest, nothing-word}
-use Rattle.insertion.specs.WordWeight.{wordWeight, lighterOf}
+use Rattle.weight.specs.WordWeight.{wordWeight, lighterOf}
 use Rattle.insertion.specs.Occupants.{placeTaken, occupantsOf, Occupied}
 use Rattle.insertion.specs.OccupantsLaws.{occupied-same, free-untaken, occupant-within, occupied-more, occupied-only, occupied-of}
 use Rattle.insertion.specs.Inserted.{LightestWord, LightestWordWith, InsertedIs}

@@ -1,5 +1,3 @@
-pub mod WordWeight
-pub mod WordWeightLaws
 pub mod Answer
 pub mod Occupants
 pub mod OccupantsLaws

@@ -1,10 +1,8 @@
 // Weighted insertion: a key goes in with either choice, occupants are evicted to their other places, and the lighter word stays.
-mod weight;
-
-use crate::weight::lighter;
 use bits::choice_at;
 use bits::toggled;
 use refusal::MEMBER_CELLS;
+use weight::lighter;
 ghost use mathlib.Core.Path.{_≡_};
 ghost use mathlib.Core.Bool.{true, false};
 ghost use mathlib.Core.Option.{some, Option·map};

@@ -3,7 +3,7 @@ use bits::choice_at;
 ghost use mathlib.Core.Path.{_≡_};
 ghost use Prim.Native.Nat.{_≤_, _<_};
 ghost use Rattle.filling.specs.Weight.{keyWeight};
-ghost use Rattle.insertion.specs.WordWeight.{wordWeight, lighterOf};
+ghost use Rattle.weight.specs.WordWeight.{wordWeight, lighterOf};
 
 // The lighter of two words of `count` choices; the first where they weigh the same.
 pub fn lighter(a: u32, b: u32, count: u32) -> u32

@@ -1,10 +1,10 @@
--- `insertion::weight::lighter` meets its contract: the words' weights are what `weight_of` answers. Assumes nothing.
+-- `weight::lighter` meets its contract: the words' weights are what `weight_of` answers. Assumes nothing.
 use native.Mathlib.Omega.{arith}
 use borrow.Author.Needs.{needs}
 use borrow.Author.Tests.{lt-ltb, le-ltb}
-use Rattle.insertion.specs.WordWeight.{wordWeight, lighterOf}
-use Rattle.insertion.proofs.weight.lighter.Statement.{statement}
-use Rattle.insertion.proofs.weight.lighter.Tie as tie
+use Rattle.weight.specs.WordWeight.{wordWeight, lighterOf}
+use Rattle.weight.proofs.lighter.Statement.{statement}
+use Rattle.weight.proofs.lighter.Tie as tie
 
 returns : tie.Need-returns
 unfolding lighterOf

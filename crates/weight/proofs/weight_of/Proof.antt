@@ -1,4 +1,4 @@
--- `insertion::weight::weight_of` meets its contract: the sum so far is the weight of the first i choices. Assumes nothing.
+-- `weight::weight_of` meets its contract: the sum so far is the weight of the first i choices. Assumes nothing.
 use Prim.Native.Nat.{_-_, _≤_, _<_}
 use mathlib.Core.Path.{_≡_, sym, _∙_}
 use mathlib.Core.Logic.{⊎-elim}
@@ -8,8 +8,8 @@ use Rattle.filling.specs.Weight.{keyWeight, total}
 use Rattle.filling.specs.WeightLaws.{total-first, total-second, weight-most, keyWeight-most}
 use Rattle.bits.specs.WordBits.{choiceIn}
 use Rattle.bits.specs.WordBitsLaws.{choiceNumber-one, choiceNumber-zero}
-use Rattle.insertion.proofs.weight.weight_of.Statement.{statement}
-use Rattle.insertion.proofs.weight.weight_of.Tie as tie
+use Rattle.weight.proofs.weight_of.Statement.{statement}
+use Rattle.weight.proofs.weight_of.Tie as tie
 
 abbrev Inv-loop : tie.InvT-loop
 Inv-loop word count sum₀ i₀ sum i = (i ≤ count) × (sum ≡ total keyWeight (choiceIn word) i)

@@ -1,0 +1,2 @@
+pub mod WordWeight
+pub mod WordWeightLaws
