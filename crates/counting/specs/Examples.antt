@@ -21,7 +21,7 @@ use Rattle.graph.specs.Parts.{partPoints, partEdges, moreEdges, lowest, partsOf
 use Rattle.counting.specs.Counting.{countingChecks, countingOf}
 
 -- `unfolding computed` opens every definition that these compute through.
-unfoldable pub computed : ℕ
+computed : ℕ
 unfolding orElse first metAt isSome met inOrder upTo product highPart hashed multiplier placeOf placeBy bothPlaces candidates notAbove
     startsUnwired one howMany connected partPoints partEdges moreEdges lowest partsOf countingChecks countingOf
 computed = 0
