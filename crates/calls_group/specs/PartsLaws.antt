@@ -17,7 +17,7 @@ use Rattle.filling.specs.Filling.{Fills}
 use Rattle.group.specs.Ascending.{notAbove}
 use Rattle.group.specs.Group.{groupUnder}
 use Rattle.graph.specs.HowMany.{one}
-use Rattle.graph.specs.HowManyLaws.{howMany-most}
+use Rattle.graph.specs.HowManyLaws.{one-most, howMany-most}
 use Rattle.graph.specs.Parts.{lowest, Parts, partsOf}
 use Rattle.parts_condition.specs.Condition.{PartsChecks}
 use Rattle.counting.specs.Counting.{countingChecks, countingOf}
@@ -57,11 +57,6 @@ module _ (tags : List ℕ) (seed : ℕ) where
       omega (arith, ap (λ (p : Parts). p .number) same, howMany-most (lowest (groupUnder tags seed)) (λ v. v) (length tags))
 
 -- The number of an answer is taken apart into it.
-one-most : (b : Bool) → one b ≤ 1
-unfolding one
-one-most true = omega arith
-one-most false = omega arith
-
 pub parts-in : (parts : Parts) → partsIn (partsNumber parts) ≡ parts
 unfolding partsIn partsNumber one
 parts-in parts = go (parts .serves) refl

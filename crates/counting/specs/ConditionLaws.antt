@@ -21,6 +21,7 @@ use Rattle.lists.specs.First.{first, isSome}
 use Rattle.graph.specs.HowMany.{howMany}
 use Rattle.graph.specs.Parts.{Parts, partsOf}
 use Rattle.graph.specs.PartLaws.{serves-parts, serves-fills, parts-are, parts-unique}
+use Rattle.graph.specs.SequencesLaws.{same-test}
 use Rattle.graph.specs.GraphTheorem.{sequences-counted}
 use Rattle.parts_condition.specs.Condition.{PartsChecks, Counted, PartsCondition}
 use Rattle.counting.specs.Counting.{countingChecks, countingOf}
@@ -78,13 +79,6 @@ module _ (tags : List ℕ) (seed : ℕ) where
     empty = empty-answered;
   }
 
-  -- Tests that say one thing are one test.
-  one-test : (a b : Bool) {P : Type 0} → (a ≡ true) ↔ P → (b ≡ true) ↔ P → a ≡ b
-  one-test true true p q = refl
-  one-test false false p q = refl
-  one-test true false p q = sym (q .1 (p .0 refl))
-  one-test false true p q = p .1 (q .0 refl)
-
   -- Where the four checks pass, the condition leaves no other answer.
   pub condition-decides : PartsChecks tags seed → {answer : Outcome Parts} → PartsCondition tags seed answer → answer ≡ countingOf tags seed
   condition-decides h {answer} c =
@@ -92,7 +86,8 @@ module _ (tags : List ℕ) (seed : ℕ) where
       let (counts, is) = counting-condition .otherwise h in
       let has = c .counted parts told in
       let same = counting-condition .counted counts is in
-      let served = one-test (parts .serves) (counts .serves) (has .first-test) (same .first-test) in
+      let served = same-test (parts .serves) (counts .serves) (λ e. same .first-test .1 (has .first-test .0 e))
+      (λ e. has .first-test .1 (same .first-test .0 e)) in
       let number = parts-unique (length tags) keys (parts .number) (counts .number) (has .number) (same .number) in
       told ∙ ap answered (one-count parts counts served number) ∙ sym is
     where

@@ -23,7 +23,7 @@ pub one-false : {b : Bool} → b ≡ false → one b ≡ 0
 unfolding one
 one-false e = rw e
 
-one-most : (b : Bool) → one b ≤ 1
+pub one-most : (b : Bool) → one b ≤ 1
 unfolding one
 one-most true = omega arith
 one-most false = omega arith

@@ -188,7 +188,7 @@ test-of-over used (key ∷ keys) (c ∷ cs) f =
     rw (free, test-of-over (placeBy c key ∷ used) keys cs rest)
 
 -- Tests that say one thing are one test.
-same-test : (a b : Bool) → (a ≡ true → b ≡ true) → (b ≡ true → a ≡ true) → a ≡ b
+pub same-test : (a b : Bool) → (a ≡ true → b ≡ true) → (b ≡ true → a ≡ true) → a ≡ b
 same-test true b there back = sym (there refl)
 same-test false true there back = back refl
 same-test false false there back = refl
