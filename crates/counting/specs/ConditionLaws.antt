@@ -1,21 +1,20 @@
 -- Counting parts meets its condition; and where a group passes the four checks the condition leaves no other answer. Assumes nothing.
 use Prim.Native.Nat.{ℕ, _≤_}
-use mathlib.Core.Path.{_≡_, refl, sym, _∙_, ap}
-use mathlib.Core.Logic.{_↔_}
-use mathlib.Core.Bool.{Bool, true, false}
+use mathlib.Core.Path.{_≡_, sym, _∙_, ap}
+use mathlib.Core.Bool.{true}
 use mathlib.Core.List.{List, []}
 use native.Mathlib.Omega.{arith}
 use lib.ListN.{length}
-use borrow.Author.Tests.{ltb-false, le-ltb}
+use borrow.Author.Tests.{le-ltb}
 use Rattle.refusal.specs.Limits.{groupMax, seedMax}
 use Rattle.refusal.specs.Outcome.{Outcome, answered}
 use Rattle.refusal.specs.Checks.{Pass}
-use Rattle.refusal.specs.ChecksLaws.{_then_, met-false, false-of-met, passed, inOrder-pass, inOrder-answered}
+use Rattle.refusal.specs.ChecksLaws.{_then_, met-false, inOrder-pass, inOrder-answered}
 use Rattle.group.specs.Group.{groupUnder}
 use Rattle.group.specs.GroupLaws.{group-size, group-below}
-use Rattle.group.specs.AscendingLaws.{ascending-of-check, check-of-ascending}
-use Rattle.group.specs.UnwiredLaws.{wired-of-check, check-of-wired}
-use Rattle.filling.specs.Filling.{Key, Fills}
+use Rattle.group.specs.AscendingLaws.{check-of-ascending}
+use Rattle.group.specs.UnwiredLaws.{check-of-wired}
+use Rattle.filling.specs.Filling.{Key}
 use Rattle.lists.specs.UpTo.{upTo}
 use Rattle.lists.specs.First.{first, isSome}
 use Rattle.graph.specs.HowMany.{howMany}

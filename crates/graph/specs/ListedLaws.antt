@@ -1,18 +1,17 @@
 -- What passes a test, as a list: as long as the test is passed often; and any list that has each of it once is as long. Assumes nothing.
-use Prim.Native.Nat.{ℕ, zero, suc, _+_, _≤_, _<_}
+use Prim.Native.Nat.{ℕ, zero, suc, _<_}
 use mathlib.Core.Path.{_≡_, refl, sym, _∙_, ap}
 use mathlib.Core.Logic.{_≢_, _↔_, _⊎_, inl, inr}
 use mathlib.Core.Bool.{Bool, true, false, cond, not-eq-not, true≢false, false≢true}
 use mathlib.Core.List.{List, [], _∷_, map}
 use native.Mathlib.Omega.{arith}
-use lib.Dec.{eqb, ltb}
+use lib.Dec.{ltb}
 use lib.ListN.{length, getD, length-map}
 use borrow.Author.Tests.{ltb-true, ltb-false}
-use Rattle.lists.specs.BoolLaws.{decided}
 use Rattle.lists.specs.UpTo.{upTo}
 use Rattle.lists.specs.Occurs.{occurs, distinct}
-use Rattle.lists.specs.OccursLaws.{occurs-here, occurs-there, occurs-cases, occurs-not, distinct-cons, pigeonhole, getD-occurs, occurs-getD}
-use Rattle.graph.specs.HowMany.{one, howMany}
+use Rattle.lists.specs.OccursLaws.{occurs-here, occurs-there, occurs-cases, distinct-cons, pigeonhole, getD-occurs, occurs-getD}
+use Rattle.graph.specs.HowMany.{howMany}
 use Rattle.graph.specs.HowManyLaws.{one-true, one-false, howMany-more, howMany-empty}
 use Rattle.graph.specs.Parts.{points}
 

@@ -1,15 +1,14 @@
 -- One key more: the parts that its places lie in become one, or it lies in one part. What that does to the numbers of places with a
 -- label. Assumes nothing.
-use Prim.Native.Nat.{ℕ, zero, suc, _+_, _≤_, _<_}
+use Prim.Native.Nat.{ℕ, _+_, _≤_, _<_}
 use mathlib.Core.Path.{_≡_, refl, sym, _∙_, ap}
 use mathlib.Core.Logic.{_≢_}
-use mathlib.Core.Bool.{Bool, true, false}
+use mathlib.Core.Bool.{true, false}
 use mathlib.Core.List.{List, [], _∷_, map}
 use native.Mathlib.Decide.{ℕ-discrete, decLt}
 use native.Mathlib.Omega.{arith}
 use lib.Dec.{eqb}
-use lib.ListN.{length}
-use borrow.Author.Tests.{eq-eqb, ne-eqb}
+use borrow.Author.Tests.{ne-eqb}
 use Rattle.filling.specs.Filling.{Key, placeBy}
 use Rattle.graph.specs.HowMany.{one, howMany}
 use Rattle.graph.specs.HowManyLaws.{one-false, one-same, one-other, howMany-sum, howMany-same, howMany-none, points-none}
@@ -46,7 +45,8 @@ module _ (key : Key) (keys : List Key) where
   unfolding label
   join places n = howMany-sum _ (λ v. eqb (label keys v) x) (λ v. eqb (label keys v) y) places (λ v. go v (ℕ-discrete (label keys v) y))
     where
-      go : (v : ℕ) → Dec (label keys v ≡ y) → one (eqb (merged x y (label keys v)) x) ≡ one (eqb (label keys v) x) + one (eqb (label keys v) y)
+      go : (v : ℕ) → Dec (label keys v ≡ y)
+          → one (eqb (merged x y (label keys v)) x) ≡ one (eqb (label keys v) x) + one (eqb (label keys v) y)
       go v (yes e) =
           omega (
             arith,

@@ -3,7 +3,7 @@
 -- Each part then has as many edges as points. Take a key away: where it joined two parts, one of them has a point more than edges, and
 -- the key must go there; where it lay in one part it can go to either place, and the part is left with a point more than edges, which
 -- is in use. So a key in a part that no place in use lies in counts twice, and each part has one such key.
-use Prim.Native.Nat.{ℕ, zero, suc, _+_, _^_, _≤_, _<_}
+use Prim.Native.Nat.{ℕ, zero, _+_, _^_, _<_}
 use mathlib.Core.Path.{_≡_, refl, sym, _∙_, ap}
 use mathlib.Core.Logic.{_≢_}
 use mathlib.Core.Bool.{Bool, true, false, _&&_, and-true, not-eq-not}
@@ -15,19 +15,21 @@ use lib.Dec.{eqb}
 use lib.ListN.{length}
 use borrow.Author.Tests.{eq-eqb, ne-eqb}
 use Rattle.lists.specs.Occurs.{occurs, distinct}
-use Rattle.lists.specs.OccursLaws.{occurs-not, distinct-cons, onto}
+use Rattle.lists.specs.OccursLaws.{distinct-cons, onto}
 use Rattle.filling.specs.Filling.{Key, placeBy, Fills, EachCandidate}
 use Rattle.filling.specs.SearchLaws.{FillsOver, over-of-fills}
 use Rattle.graph.specs.HowMany.{one, howMany}
-use Rattle.graph.specs.HowManyLaws.{one-same, one-other, one-true, one-false, points-same, points-none, points-change, points-change-two}
+use Rattle.graph.specs.HowManyLaws.{one-same, one-other, one-true, one-false, points-same, points-none, points-change}
+use Rattle.graph.specs.HowManyLaws.{points-change-two}
 use Rattle.graph.specs.Parts.{points}
 use Rattle.graph.specs.Sequences.{allSequences, fills}
 use Rattle.graph.specs.Label.{merged, label}
 use Rattle.graph.specs.ConnectedLaws.{merged-from, merged-other, merged-into}
-use Rattle.graph.specs.MergeLaws.{within, firsts, pointsWith, edgesWith, join, gone, apart, stay, inside, edges-in, Which, only, left}
+use Rattle.graph.specs.MergeLaws.{within, firsts, pointsWith, edgesWith, join, apart, stay, inside, edges-in, Which, only, left}
 use Rattle.graph.specs.MergeLaws.{right, none, which, points-out, points-once, points-most}
 use Rattle.graph.specs.RoomLaws.{Under, under-none, under-more, below-rest, over-split, within-none, within-empty, within-more}
-use Rattle.graph.specs.RoomLaws.{howMany-absent, howMany-present, taken-apart, taken-same, taken-other, Room, fills-room}
+use Rattle.graph.specs.RoomLaws.{howMany-absent, howMany-present, taken-same, taken-other, Room, fills-room}
+use Rattle.graph.specs.RoomLaws.{Sums, as-before, together, nothing, key-back}
 use Rattle.graph.specs.SequencesLaws.{sequencesOver, sequences-over, sequences-none, beginningWith, sequences-key, beginning-free}
 use Rattle.graph.specs.SequencesLaws.{beginning-none}
 
@@ -37,59 +39,14 @@ Exact n keys used = (r : ℕ) → within keys used r + edgesWith keys r ≡ poin
 
 exact-back : (n : ℕ) (key : Key) (keys : List Key) (used : List ℕ) (choice : Bool) → Exact n keys (placeBy choice key ∷ used)
     → Exact n (key ∷ keys) used
-exact-back n key keys used choice exact r = go (which x y r)
+exact-back n key keys used choice exact r = go (key-back n key keys used choice r)
   where
-    x : ℕ
-    x = label keys (placeBy false key)
-
-    y : ℕ
-    y = label keys (placeBy true key)
-
-    taken : ℕ
-    taken = placeBy choice key
-
-    go : Which x y r → within (key ∷ keys) used r + edgesWith (key ∷ keys) r ≡ pointsWith n (key ∷ keys) r
-    go (only e) =
-        omega (
-          arith,
-          exact r,
-          within-more keys used taken r,
-          ap (λ (z : ℕ). one (eqb z r)) (taken-same keys key choice e),
-          inside key keys used r e,
-          inside key keys (firsts keys) r e,
-          inside key keys (points n) r e,
-          edges-in key keys r,
-        )
-    go (left m e) =
-        rw e
-        (omega (
-          arith,
-          exact x,
-          exact y,
-          within-more keys used taken x,
-          within-more keys used taken y,
-          taken-apart keys key choice m,
-          join key keys used m,
-          join key keys (firsts keys) m,
-          join key keys (points n) m,
-          edges-in key keys x,
-          one-same x x refl,
-        ))
-    go (right m e) =
-        rw e
-        (omega (arith, gone key keys used m, gone key keys (firsts keys) m, gone key keys (points n) m, edges-in key keys y, one-other x y m))
-    go (none m a b) =
-        omega (
-          arith,
-          exact r,
-          within-more keys used taken r,
-          taken-other keys key choice r a b,
-          apart key keys used r a b,
-          apart key keys (firsts keys) r a b,
-          apart key keys (points n) r a b,
-          edges-in key keys r,
-          one-other x r (λ z. a (sym z)),
-        )
+    go : Sums (λ s. within keys (placeBy choice key ∷ used) s + edgesWith keys s)
+        (λ s. within (key ∷ keys) used s + edgesWith (key ∷ keys) s) (pointsWith n keys) (pointsWith n (key ∷ keys)) r
+        → within (key ∷ keys) used r + edgesWith (key ∷ keys) r ≡ pointsWith n (key ∷ keys) r
+    go (as-before f p) = omega (arith, f, p, exact r)
+    go (together x y f p) = omega (arith, f, p, exact x, exact y)
+    go (nothing f p) = omega (arith, f, p)
 
 -- Where a sequence fills and all places are taken in the end, it is so from the beginning.
 fills-exact : (n : ℕ) (keys : List Key) (used : List ℕ) (cs : List Bool) → distinct used ≡ true → Under n used
@@ -366,7 +323,8 @@ exact-sequences n (key ∷ keys) used exact d under below = go (ℕ-discrete x y
         doubled = ap (λ (z : ℕ). 2 ^ z) (omega arith) ∙ two-pow-succ (spares n keys (a ∷ used))
     go (no m) rest = on (decLt (within keys used x + edgesWith keys x) (pointsWith n keys x))
       where
-        both : within keys used x + within keys used y + (1 + edgesWith keys x + edgesWith keys y) ≡ pointsWith n keys x + pointsWith n keys y
+        both : within keys used x + within keys used y + (1 + edgesWith keys x + edgesWith keys y)
+            ≡ pointsWith n keys x + pointsWith n keys y
         both =
             omega (
               arith,
@@ -390,7 +348,8 @@ exact-sequences n (key ∷ keys) used exact d under below = go (ℕ-discrete x y
               one-other x r (λ z. nx (sym z)),
             )
 
-        on : Dec (within keys used x + edgesWith keys x < pointsWith n keys x) → sequencesOver used (key ∷ keys) ≡ 2 ^ spares n (key ∷ keys) used
+        on : Dec (within keys used x + edgesWith keys x < pointsWith n keys x)
+            → sequencesOver used (key ∷ keys) ≡ 2 ^ spares n (key ∷ keys) used
         on (yes some) =
             rw (spares-join n key keys used below false m free)
             (omega (

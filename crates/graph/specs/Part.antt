@@ -19,7 +19,8 @@ pub record Part (n : ℕ) (keys : List Key) (points edges : List ℕ) : Type 0 w
   pub points-once : distinct points ≡ true
   pub points-are : (v : ℕ) → (occurs v points ≡ true) ↔ ((v < n) × Connected keys member v)
   pub edges-once : distinct edges ≡ true
-  pub edges-are : (i : ℕ) → (occurs i edges ≡ true) ↔ ((i < length keys) × ((choice : Bool) → Connected keys member (keyPlace keys i choice)))
+  pub edges-are : (i : ℕ) → (occurs i edges ≡ true)
+      ↔ ((i < length keys) × ((choice : Bool) → Connected keys member (keyPlace keys i choice)))
 
 -- "no connected part of the graph … has more edges than points"
 abbrev pub NoPartHasMoreEdges : ℕ → List Key → Type 0

@@ -1,18 +1,18 @@
 -- The parts by walks and the parts counted are the same: a part's points and edges, and how many parts there are, whichever point
 -- stands for each. Assumes nothing.
-use Prim.Native.Nat.{ℕ, zero, suc, _+_, _≤_, _<_}
-use mathlib.Core.Path.{_≡_, refl, sym, _∙_, ap}
-use mathlib.Core.Logic.{_≢_, _↔_, _⊎_, inl, inr}
-use mathlib.Core.Bool.{Bool, true, false, not, _&&_, and-self, not-eq-not, true≢false, false≢true}
-use mathlib.Core.List.{List, [], _∷_, map}
+use Prim.Native.Nat.{ℕ, suc, _≤_, _<_}
+use mathlib.Core.Path.{_≡_, refl, sym, _∙_}
+use mathlib.Core.Logic.{_≢_, _↔_}
+use mathlib.Core.Bool.{Bool, true, false, not, _&&_, and-self, true≢false, false≢true}
+use mathlib.Core.List.{List, [], map}
 use mathlib.Core.Option.{Option, none, some}
 use native.Mathlib.Decide.{ℕ-discrete, decLt}
 use native.Mathlib.Omega.{arith}
-use lib.Dec.{eqb, ltb}
+use lib.Dec.{eqb}
 use lib.ListN.{length, getD, length-map}
 use borrow.Author.Tests.{eqb-true, eq-eqb, ne-eqb, ltb-false, le-ltb, not-true}
 use Rattle.lists.specs.BoolLaws.{both-of-and}
-use Rattle.lists.specs.First.{first, isSome}
+use Rattle.lists.specs.First.{first}
 use Rattle.lists.specs.FirstLaws.{first-some, first-none, first-out, none-of-isSome, isSome-of-none}
 use Rattle.lists.specs.Occurs.{occurs, distinct}
 use Rattle.lists.specs.OccursLaws.{pigeonhole, getD-occurs, occurs-getD, distinct-getD, getD-distinct}
@@ -22,7 +22,7 @@ use Rattle.graph.specs.HowMany.{one, howMany}
 use Rattle.graph.specs.HowManyLaws.{howMany-at, howMany-map, howMany-same}
 use Rattle.graph.specs.Graph.{Connected, connected}
 use Rattle.graph.specs.Part.{Part, NoPartHasMoreEdges, OneOfEach, PartsAre}
-use Rattle.graph.specs.Parts.{points, partPoints, partEdges, moreEdges, lowest, Parts, partsOf}
+use Rattle.graph.specs.Parts.{points, partPoints, partEdges, moreEdges, lowest, partsOf}
 use Rattle.graph.specs.Label.{label}
 use Rattle.graph.specs.ConnectedLaws.{connected-label, key-label, connected-is, connected-one-label}
 use Rattle.graph.specs.MergeLaws.{pointsWith, edgesWith}
@@ -180,7 +180,12 @@ module _ (keys : List Key) where
 module _ (n : ℕ) (keys : List Key) where
   members-most : (xs ys : List ℕ) → OneOfEach n keys xs → OneOfEach n keys ys → length xs ≤ length ys
   members-most xs ys ox oy =
-      omega (arith, length-map xs (label keys), length-map ys (label keys), pigeonhole (map (label keys) xs) (map (label keys) ys) once among)
+      omega (
+        arith,
+        length-map xs (label keys),
+        length-map ys (label keys),
+        pigeonhole (map (label keys) xs) (map (label keys) ys) once among,
+      )
     where
       once : distinct (map (label keys) xs) ≡ true
       once = getD-distinct (map (label keys) xs) (λ i j li lj e.

@@ -4,7 +4,6 @@ use Prim.Native.Nat.{ℕ}
 use mathlib.Core.Bool.{Bool, true, false, not, _&&_}
 use mathlib.Core.List.{List}
 use lib.Dec.{ltb}
-use lib.ListN.{length}
 use Rattle.lists.specs.First.{first, isSome}
 use Rattle.lists.specs.UpTo.{upTo}
 use Rattle.filling.specs.Filling.{Key, placeBy}

@@ -1,14 +1,12 @@
 -- Some sequence fills exactly where no label has more edges than points, key by key over the places used so far. Assumes nothing.
 use Prim.Native.Nat.{ℕ, zero, suc, _+_, _≤_, _<_}
-use mathlib.Core.Path.{_≡_, refl, sym, _∙_, ap}
+use mathlib.Core.Path.{_≡_, refl, sym, ap}
 use mathlib.Core.Logic.{_≢_, _⊎_, inl, inr}
 use mathlib.Core.Bool.{Bool, true, false, not-eq-not, true≢false}
 use mathlib.Core.List.{List, [], _∷_}
 use native.Mathlib.Decide.{ℕ-discrete, decLt}
 use native.Mathlib.Omega.{arith}
 use lib.Dec.{eqb}
-use lib.ListN.{length}
-use borrow.Author.Tests.{ne-eqb}
 use Rattle.lists.specs.Occurs.{occurs, distinct}
 use Rattle.lists.specs.OccursLaws.{occurs-here, occurs-there, occurs-cases, occurs-not, distinct-head, distinct-tail, distinct-cons}
 use Rattle.filling.specs.Filling.{Key, placeBy, chosen, Fills, EachCandidate}
@@ -17,8 +15,8 @@ use Rattle.graph.specs.HowMany.{one, howMany}
 use Rattle.graph.specs.HowManyLaws.{one-same, one-other}
 use Rattle.graph.specs.Parts.{points}
 use Rattle.graph.specs.Label.{label}
-use Rattle.graph.specs.MergeLaws.{within, firsts, pointsWith, edgesWith, join, gone, apart, inside, edges-in, Which, only, left, right}
-use Rattle.graph.specs.MergeLaws.{none, which, points-once, points-most}
+use Rattle.graph.specs.MergeLaws.{within, firsts, pointsWith, edgesWith, join, gone, apart, inside, edges-in, Which, only, left}
+use Rattle.graph.specs.MergeLaws.{right, none, which, points-once, points-most}
 
 -- A key more fills over the places used where its place is not used, and the rest fill over that place too.
 pub over-cons : {used : List ℕ} {key : Key} {keys : List Key} {choice : Bool} {choices : List Bool}
@@ -180,7 +178,8 @@ room-fills n (key ∷ keys) used room = go (ℕ-discrete x y) (room-fills n keys
             )
     go (no m) rest = on (decLt (within keys used x + edgesWith keys x) (pointsWith n keys x))
       where
-        both : within keys used x + within keys used y + (1 + edgesWith keys x + edgesWith keys y) ≤ pointsWith n keys x + pointsWith n keys y
+        both : within keys used x + within keys used y + (1 + edgesWith keys x + edgesWith keys y)
+            ≤ pointsWith n keys x + pointsWith n keys y
         both =
             omega (
               arith,
@@ -220,10 +219,17 @@ room-fills n (key ∷ keys) used room = go (ℕ-discrete x y) (room-fills n keys
             at r (right _ e) = rw e (omega (arith, both, full, within-more keys used b y, one-same y y refl))
             at r (none _ nx ny) = omega (arith, others r nx ny, within-more keys used b r, one-other y r (λ z. ny (sym z)))
 
--- The other way: what holds of the keys behind one, with its place in use, holds of it and them.
-room-back : (n : ℕ) (key : Key) (keys : List Key) (used : List ℕ) (choice : Bool) → Room n keys (placeBy choice key ∷ used)
-    → Room n (key ∷ keys) used
-room-back n key keys used choice room r = go (which x y r)
+-- A key more, and its place no longer in use: what each label has, of edges with places in use and of points, is what one label or two had
+-- before, or nothing.
+pub data Sums (filled filled′ size size′ : ℕ → ℕ) (r : ℕ) : Type 0 where
+  as-before : filled′ r ≡ filled r → size′ r ≡ size r → Sums filled filled′ size size′ r
+  together : (x y : ℕ) → filled′ r ≡ filled x + filled y → size′ r ≡ size x + size y → Sums filled filled′ size size′ r
+  nothing : filled′ r ≡ 0 → size′ r ≡ 0 → Sums filled filled′ size size′ r
+
+pub key-back : (n : ℕ) (key : Key) (keys : List Key) (used : List ℕ) (choice : Bool) (r : ℕ)
+    → Sums (λ s. within keys (placeBy choice key ∷ used) s + edgesWith keys s) (λ s. within (key ∷ keys) used s + edgesWith (key ∷ keys) s)
+    (pointsWith n keys) (pointsWith n (key ∷ keys)) r
+key-back n key keys used choice r = go (which x y r)
   where
     x : ℕ
     x = label keys (placeBy false key)
@@ -234,46 +240,61 @@ room-back n key keys used choice room r = go (which x y r)
     taken : ℕ
     taken = placeBy choice key
 
-    go : Which x y r → within (key ∷ keys) used r + edgesWith (key ∷ keys) r ≤ pointsWith n (key ∷ keys) r
+    go : Which x y r → Sums (λ s. within keys (taken ∷ used) s + edgesWith keys s)
+        (λ s. within (key ∷ keys) used s + edgesWith (key ∷ keys) s) (pointsWith n keys) (pointsWith n (key ∷ keys)) r
     go (only e) =
-        omega (
+        as-before
+        (omega (
           arith,
-          room r,
           within-more keys used taken r,
           ap (λ (z : ℕ). one (eqb z r)) (taken-same keys key choice e),
           inside key keys used r e,
           inside key keys (firsts keys) r e,
-          inside key keys (points n) r e,
           edges-in key keys r,
-        )
+        ))
+        (inside key keys (points n) r e)
     go (left m e) =
-        rw e
+        together x y
+        (rw e
         (omega (
           arith,
-          room x,
-          room y,
           within-more keys used taken x,
           within-more keys used taken y,
           taken-apart keys key choice m,
           join key keys used m,
           join key keys (firsts keys) m,
-          join key keys (points n) m,
           edges-in key keys x,
           one-same x x refl,
-        ))
+        )))
+        (rw e (join key keys (points n) m))
     go (right m e) =
-        rw e (omega (arith, gone key keys used m, gone key keys (firsts keys) m, edges-in key keys y, one-other x y m))
+        nothing
+        (rw e (omega (arith, gone key keys used m, gone key keys (firsts keys) m, edges-in key keys y, one-other x y m)))
+        (rw e (gone key keys (points n) m))
     go (none m a b) =
-        omega (
+        as-before
+        (omega (
           arith,
-          room r,
           within-more keys used taken r,
+          taken-other keys key choice r a b,
           apart key keys used r a b,
           apart key keys (firsts keys) r a b,
-          apart key keys (points n) r a b,
           edges-in key keys r,
           one-other x r (λ z. a (sym z)),
-        )
+        ))
+        (apart key keys (points n) r a b)
+
+-- So what holds of the keys behind one, with its place in use, holds of it and them.
+room-back : (n : ℕ) (key : Key) (keys : List Key) (used : List ℕ) (choice : Bool) → Room n keys (placeBy choice key ∷ used)
+    → Room n (key ∷ keys) used
+room-back n key keys used choice room r = go (key-back n key keys used choice r)
+  where
+    go : Sums (λ s. within keys (placeBy choice key ∷ used) s + edgesWith keys s)
+        (λ s. within (key ∷ keys) used s + edgesWith (key ∷ keys) s) (pointsWith n keys) (pointsWith n (key ∷ keys)) r
+        → within (key ∷ keys) used r + edgesWith (key ∷ keys) r ≤ pointsWith n (key ∷ keys) r
+    go (as-before f p) = omega (arith, f, p, room r)
+    go (together x y f p) = omega (arith, f, p, room x, room y)
+    go (nothing f p) = omega (arith, f)
 
 -- Where a sequence fills over different places in use, there is room.
 pub fills-room : (n : ℕ) (keys : List Key) (used : List ℕ) (cs : List Bool) → distinct used ≡ true → Under n used

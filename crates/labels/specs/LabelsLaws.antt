@@ -1,6 +1,6 @@
 -- The labels of the places in an array: at first each its own, and what one key more does to them. Assumes nothing.
 use Prim.Native.Nat.{ℕ, zero, suc, _+_, _-_, _≤_, _<_}
-use mathlib.Core.Path.{_≡_, refl, sym, _∙_, ap}
+use mathlib.Core.Path.{_≡_, refl, _∙_, ap}
 use mathlib.Core.Bool.{true, false}
 use mathlib.Core.List.{List, [], _∷_, _++_, map, append-assoc, append-nil, map-append}
 use native.Mathlib.Nat.{add-zero}
@@ -11,7 +11,7 @@ use lib.Seq.{drop-cons, drop-length, take-suc, take-length, length-take-le, getD
 use Rattle.lists.specs.UpTo.{upTo}
 use Rattle.lists.specs.UpToLaws.{upTo-length, upTo-at, upTo-more}
 use Rattle.lists.specs.WrittenLaws.{written-front}
-use Rattle.filling.specs.Filling.{Key, placeBy}
+use Rattle.filling.specs.Filling.{Key}
 use Rattle.filling.specs.Separate.{keyPlace}
 use Rattle.graph.specs.Label.{merged, label, labelsOf}
 

@@ -152,7 +152,8 @@ module _ {places labels : List ℕ} {n : ℕ} (g : Graphed places labels n) wher
       omega (arith, ap (λ l. getD l v 0) (g .labels-are), labels-at groupMax keys v lt)
 
   -- Counted by label, some label has more edges than points exactly where some part has.
-  module _ {counted edged : List ℕ} (p : counted ≡ byLabel (labelled labels) (points n)) (e : edged ≡ byLabel (bothLabelled labels) keys) where
+  module _ {counted edged : List ℕ} (p : counted ≡ byLabel (labelled labels) (points n))
+      (e : edged ≡ byLabel (bothLabelled labels) keys) where
     counted-label : (r : ℕ) → r < n → (getD counted r 0 ≡ pointsWith n keys r) × (getD edged r 0 ≡ edgesWith keys r)
     unfolding byLabel
     counted-label r lt =

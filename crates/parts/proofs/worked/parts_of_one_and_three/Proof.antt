@@ -1,5 +1,5 @@
--- `parts::worked::parts_of_one_and_three` meets its contract: by the promise of `count_parts` the answer is what the definition computes to.
--- Assumes nothing.
+-- `parts::worked::parts_of_one_and_three` meets its contract: by the promise of `count_parts` the answer is what the definition
+-- computes to. Assumes nothing.
 use borrow.Author.Needs.{needs}
 use mathlib.Core.Path.{_≡_, ap}
 use mathlib.Core.Bool.{Bool, false, true≢false}

@@ -1,7 +1,7 @@
 -- `parts::worked::serves` meets its contract: by the condition of `count_parts` an answer agrees with the first test, and a group that
 -- passes the checks is not refused. Assumes nothing.
 use borrow.Author.Needs.{needs}
-use mathlib.Core.Path.{_≡_, sym, _∙_, ap}
+use mathlib.Core.Path.{_≡_, ap}
 use native.Mathlib.Omega.{arith}
 use Prim.Native.Nat.{ℕ}
 use Rattle.parts.specs.Answer.{partsOutcome}
