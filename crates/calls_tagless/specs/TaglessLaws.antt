@@ -139,7 +139,8 @@ lookup-slot image t = go (taglessLookupOf image t) refl
 
 pub tagless-lookup-fits : (image : List ℕ) (t : ℕ) → Fits (answeredBy foundNumber (taglessLookupOf image t))
 tagless-lookup-fits image t =
-    found-fits imageLines (taglessLookupOf image t) (omega arith) (lookup-slot image t) (tagless-lookup-place image t) (lookup-numbered image t)
+    found-fits imageLines (taglessLookupOf image t) (omega arith) (lookup-slot image t) (tagless-lookup-place image t)
+    (lookup-numbered image t)
 
 -- Calls with one answer came to one outcome.
 pub tagless-build-apart : (text text′ : List ℕ) (room room′ : ℕ) → taglessBuildAnswer text room ≡ taglessBuildAnswer text′ room′

@@ -1,5 +1,5 @@
--- The graph of keys with two candidate places each: the places are its points, the keys its edges. Which points are connected, by
--- walks along edges. Document 001: "places as points, tags as edges" (the field's term: cuckoo graph). Assumes nothing.
+-- The graph of keys with two candidate places each, and which of its points are connected, by walks along edges. Document 02, §8:
+-- "places as points, tags as edges" (the field's term: cuckoo graph). Assumes nothing.
 use Prim.Native.Nat.{ℕ, _<_}
 use mathlib.Core.Path.{_≡_}
 use mathlib.Core.Bool.{Bool, true, false, not, _&&_, _||_}

@@ -8,6 +8,7 @@ unfoldable pub one : Bool → ℕ
 one true = 1
 one false = 0
 
+-- None of the empty list.
 unfoldable pub howMany : {A : Type 0} → (A → Bool) → List A → ℕ
 howMany test [] = 0
 howMany test (x ∷ xs) = one (test x) + howMany test xs

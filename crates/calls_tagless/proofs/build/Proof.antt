@@ -32,7 +32,8 @@ refusal-answer-requires c κs =
 
 -- The answer, the bytes, and the condition of the answer.
 promised : (text before after : List ℕ) (r : ℕ) (outcome : Outcome ℕ) → TextPromised text before outcome after → r ≡ answer64 outcome
-    → (r ≡ taglessBuildAnswer text (length before)) × ((after ≡ taglessBufferFromText text before) × TaglessBuildCondition text before r after)
+    → (r ≡ taglessBuildAnswer text (length before))
+    × ((after ≡ taglessBufferFromText text before) × TaglessBuildCondition text before r after)
 unfolding taglessBuildAnswer
 promised text before after r outcome (told, (bytes, condition)) answer =
     let (is, of-answer) =

@@ -33,7 +33,8 @@ returns c =
     let told = c .before in
     let looked = told .before .before in
     let a = looked .before .before .args in
-    tagless-condition2 (a .image .now) (a .tag) (ap answerOf (sym (ap lookupOutcome (told .j .given .1)) ∙ looked .tagless-lookup .ensures .0))
+    tagless-condition2 (a .image .now) (a .tag)
+    (ap answerOf (sym (ap lookupOutcome (told .j .given .1)) ∙ looked .tagless-lookup .ensures .0))
 
 returns-2 : tie.Need-returns-2
 unfolding taglessLookupAnswer answer64 answeredBy foundNumber
