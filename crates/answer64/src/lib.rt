@@ -1,4 +1,6 @@
 // The 64-bit answer of a refusal, as C and Rust get it.
+#![tactic(auto)]
+
 mod worked;
 
 ghost use Rattle.std.specs.Prelude.{◌≡◌, ◌<◌};

@@ -1,4 +1,6 @@
 // A group's tags put in the order of their places, and the slots of all groups one group's after the other's.
+#![tactic(auto)]
+
 ghost use Rattle.std.specs.Prelude.{◌≡◌, cond, ◌<◌, length};
 ghost use Rattle.std.proofs.Math.Option.{get_or};
 ghost use Rattle.lists.specs.First.{first};

@@ -1,4 +1,6 @@
 // Single bits of a 32-bit word, and the choices of a choice word: bit i is the choice of key i.
+#![tactic(auto)]
+
 ghost use Rattle.std.specs.Prelude.{◌≡◌, ◌<◌};
 ghost use Rattle.filling.specs.Word.{choice_number};
 ghost use Rattle.bits.specs.Bit.{set_bit};

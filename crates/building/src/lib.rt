@@ -1,4 +1,6 @@
 // The operation "building": planning, and then writing with the same list and the plan as it was yielded.
+#![tactic(auto)]
+
 mod worked;
 
 ghost use Rattle.std.specs.Prelude.{◌≡◌, length};

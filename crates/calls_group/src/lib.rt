@@ -1,4 +1,6 @@
 // Calls of the C boundary on one group: placing it, and counting its parts, each with one 64-bit answer.
+#![tactic(auto)]
+
 mod worked;
 
 ghost use Rattle.std.specs.Prelude.{◌≡◌};

@@ -1,4 +1,6 @@
 // The call of the C boundary for the strict check, with its 64-bit answer. Document 02, §7.
+#![tactic(auto)]
+
 mod worked;
 
 ghost use Rattle.std.specs.Prelude.{◌≡◌};

@@ -1,4 +1,6 @@
 // The calls of the C boundary on an index without tags, each with one 64-bit answer. Document 02, §5.
+#![tactic(auto)]
+
 mod worked;
 
 ghost use Rattle.std.specs.Prelude.{◌≡◌, length};

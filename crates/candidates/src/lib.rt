@@ -1,4 +1,6 @@
 // The candidate places of a group's tags under a seed, laid into an array of places.
+#![tactic(auto)]
+
 ghost use Rattle.std.specs.Prelude.{◌≡◌, map, ◌*◌, ◌≤◌, length};
 ghost use Rattle.std.proofs.Math.Seq.{paste};
 ghost use Rattle.refusal.specs.Limits.{group_max, seed_max};

@@ -1,5 +1,6 @@
 // Runs eight functions of the C boundary: checking and lookup, the strict check, placing, counting parts, and those of an index without
 // tags. Each answer is printed as the number that C gets.
+#![tactic(auto)]
 
 // Prints the case's name and an answer.
 fn answer(name: &[u8], r: u64) {

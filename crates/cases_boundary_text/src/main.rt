@@ -1,5 +1,6 @@
 // Runs building, planning and writing over the C boundary, from list texts: the whole case of document 01, and refusals of each. Each
 // answer is printed as the number that C gets.
+#![tactic(auto)]
 
 // Prints the case's name and an answer.
 fn answer(name: &[u8], r: u64) {

@@ -1,5 +1,7 @@
 // Runs cases of building: worked values 4, 5, 6, 10, 11 and 12, each refusal and which of two comes first, and images byte by byte,
 // with what checking and lookup say of them.
+#![tactic(auto)]
+
 use building::BuildAnswer;
 use checking::CheckAnswer;
 use lookup::LookupAnswer;

@@ -1,5 +1,7 @@
 // Runs whole searches: groups that no seed serves are refused only after all 65,536 seeds, and a group that the last seed serves gets
 // it. Multipliers are odd, so a multiple of 2^29 stays one, and an odd multiple stays odd; those of 2^27 alike.
+#![tactic(auto)]
+
 use placing::PlacingAnswer;
 
 fn place(tags: &[u32], limit: u32) {

@@ -1,4 +1,6 @@
 // Runs checking and lookup on small images, whole and damaged: each refusal and each rule for its place.
+#![tactic(auto)]
+
 use checking::CheckAnswer;
 use lookup::LookupAnswer;
 

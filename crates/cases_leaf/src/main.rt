@@ -1,4 +1,6 @@
 // Runs chosen cases of the leaf crates: place of one tag, at the ranges' ends and beyond them.
+#![tactic(auto)]
+
 use hash::PlaceAnswer;
 
 fn place(n: u32, seed: u32, choice: u32, tag: u32) {

@@ -1,4 +1,6 @@
 // Runs cases of reading a list: each refusal at each of its places, and the cells afterwards.
+#![tactic(auto)]
+
 use list::ListAnswer;
 
 // Reads the text into the cells, and prints the answer and the cells.

@@ -1,4 +1,6 @@
 // Runs reading on the longest list and on one tag more: 4,096 tags are read, 4,097 are refused with 5.
+#![tactic(auto)]
+
 use list::ListAnswer;
 
 fn read(text: &[u8], cells: &mut [u32]) {

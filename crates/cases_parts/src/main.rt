@@ -1,5 +1,7 @@
 // Runs cases of the second test of a seed, counting parts: worked values 1 to 3, untouched places, tags with equal places, tags with the
 // same pair of places, parts that are joined, groups of 32 tags, and each refusal.
+#![tactic(auto)]
+
 use parts::PartsAnswer;
 
 fn number(serves: &[u8], parts: u32) {

@@ -1,4 +1,6 @@
 // Runs cases of placing a group: worked values 4, 5, 6, 10 and 12, the traps, groups of 32 tags, and each refusal.
+#![tactic(auto)]
+
 use placing::PlacingAnswer;
 
 fn place(tags: &[u32], limit: u32) {

@@ -1,5 +1,7 @@
 // Runs cases of planning and of writing: plans as planning yields them, of other lists, and changed; each refusal of the two, and which
 // of two comes first. Every lent cell and every byte of the buffer is printed, after a refusal too.
+#![tactic(auto)]
+
 use planning::PlanAnswer;
 use writing::WriteAnswer;
 

@@ -1,5 +1,6 @@
 // Runs the index printer: the whole case of document 01, a text for each refusal, the longest text that is examined and one byte more,
 // and an output that is too short.
+#![tactic(auto)]
 
 // Prints the case's name, how many bytes the printer wrote, and the first 77 bytes of its output, which were dots.
 fn show(name: &[u8], count: usize, out: &[u8]) {

@@ -1,5 +1,7 @@
 // Runs checking and the strict check on small images: as building writes them, with another seed or another sequence that checking
 // accepts as well, and with a refusal of checking and 19 due at once.
+#![tactic(auto)]
+
 use checking::CheckAnswer;
 
 fn said(answer: CheckAnswer) {

@@ -1,5 +1,7 @@
 // Runs cases of building an index without tags: each refusal and which of two comes first, and images byte by byte, with what checking
 // and lookup say of them.
+#![tactic(auto)]
+
 use building::BuildAnswer;
 use checking::CheckAnswer;
 use lookup::LookupAnswer;

@@ -1,4 +1,6 @@
 // Runs checking and lookup of small images without tags, whole and damaged: each refusal and each rule for its place.
+#![tactic(auto)]
+
 use checking::CheckAnswer;
 use lookup::LookupAnswer;
 

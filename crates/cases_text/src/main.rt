@@ -1,5 +1,7 @@
 // Runs chosen cases of the text and digits crates: figures and fields at their edges, the five kinds of line, lines written, and the
 // width of numbers.
+#![tactic(auto)]
+
 use text::{Field, Pair, Tag};
 
 fn field(bytes: &[u8], at: usize, width: usize) {

@@ -1,4 +1,6 @@
 // The operation "checking": whether an image is one that lookup may trust, for any bytes.
+#![tactic(auto)]
+
 ghost use Rattle.std.specs.Prelude.{◌≡◌, ◌+◌, ◌≤◌, length};
 ghost use Rattle.std.proofs.Math.Option.{none};
 ghost use Rattle.refusal.specs.Limits.{tags_max, groups_max};

@@ -1,4 +1,6 @@
 // Condition 3 of the real functions: planning, writing, and then lookup in what was written.
+#![tactic(auto)]
+
 mod worked;
 
 ghost use Rattle.std.specs.Prelude.{◌≡◌, length};

@@ -1,4 +1,6 @@
 // Eight columns of a text read in one word: the first column in its lowest byte.
+#![tactic(auto)]
+
 ghost use Rattle.std.specs.Prelude.{◌≡◌, ◌+◌, ◌*◌, ◌≤◌, ◌<◌, length, take, drop};
 ghost use Rattle.digits.specs.Digits.{packed};
 ghost use Rattle.columns.specs.Columns.{leading_from, fours_in};

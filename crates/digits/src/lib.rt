@@ -1,4 +1,6 @@
 // Numbers in columns: how many one takes, its digits from a column on, and eight at once, a tag's last eight.
+#![tactic(auto)]
+
 mod worked;
 
 ghost use Rattle.std.specs.Prelude.{◌≡◌, ◌+◌, ◌-◌, ◌≤◌, ◌<◌, length};

@@ -2,6 +2,8 @@
 //
 // An equation is a word of 33 bits, the highest its constant. A word solves it where, with the constant's bit set, it shares an even
 // number of ones with it.
+#![tactic(auto)]
+
 ghost use Rattle.std.specs.Prelude.{◌≡◌, ◌^◌, ◌<◌, get_or};
 ghost use Rattle.elimination.specs.Table.{Table, Inserted, LeastSolution};
 

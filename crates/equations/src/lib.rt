@@ -3,6 +3,8 @@
 // Each place gives one linear equation over GF(2) in the bits of the word: an odd number of tags take it. n tags on n places are all
 // different exactly where all n equations hold. They are brought into a table by their lowest bits (Gaussian elimination); then each bit
 // of the word, from the highest down, is set only where its equation forces it, which gives the numerically least word.
+#![tactic(auto)]
+
 ghost use Rattle.std.specs.Prelude.{◌≡◌, take};
 ghost use Rattle.refusal.specs.Limits.{group_max};
 ghost use Rattle.lists.specs.UpTo.{up_to};

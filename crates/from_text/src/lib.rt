@@ -1,4 +1,6 @@
 // Planning, writing and building from a list text: the text's list is read, and handed on.
+#![tactic(auto)]
+
 ghost use Rattle.std.specs.Prelude.{◌≡◌, length};
 ghost use Rattle.refusal.specs.Limits.{tags_max};
 ghost use Rattle.refusal.specs.Outcome.{answered_by};

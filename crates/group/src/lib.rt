@@ -1,4 +1,6 @@
 // Checks 6 and 17 of placing and building: is the list strictly ascending, and is its first tag that of a tank?
+#![tactic(auto)]
+
 mod worked;
 
 ghost use Rattle.std.specs.Prelude.{◌≡◌};

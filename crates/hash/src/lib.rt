@@ -2,6 +2,8 @@
 //
 // The method is odd-multiply-shift (document 000, definition 5), with the high part of the product in place of the shift, so that
 // the table may have any size. Wrapping is intended in the products and only there: each goes through `wrapping_multiply`.
+#![tactic(auto)]
+
 mod worked;
 
 ghost use Rattle.std.specs.Prelude.{◌≡◌, ◌≤◌};

@@ -1,4 +1,6 @@
 // Weighted insertion: a key goes in with either choice, occupants are evicted to their other places, and the lighter word stays.
+#![tactic(auto)]
+
 ghost use Rattle.std.specs.Prelude.{◌≡◌, true, false, ◌+◌, ◌*◌, ◌-◌, ◌^◌, ◌≤◌, ◌<◌, length};
 ghost use Rattle.std.proofs.Math.Option.{some, map};
 ghost use Rattle.refusal.specs.Limits.{group_max};

@@ -1,4 +1,6 @@
 // Labels of places: a place has the label of its part, which is one of the part's places, and places of one part have one label.
+#![tactic(auto)]
+
 ghost use Rattle.std.specs.Prelude.{◌≡◌, map, ◌≤◌, length};
 ghost use Rattle.refusal.specs.Limits.{group_max};
 ghost use Rattle.graph.specs.Label.{merged, labels_of};

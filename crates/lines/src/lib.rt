@@ -1,4 +1,6 @@
 // The lines of a text: read where they stand, and written in place, field by field. `text` has what a field and a line read as.
+#![tactic(auto)]
+
 ghost use Rattle.std.specs.Prelude.{◌≡◌, ◌+◌, ◌*◌, ◌≤◌, ltb, length, take, drop};
 ghost use Rattle.lists.specs.First.{first};
 ghost use Rattle.lists.specs.Written.{written_at};

@@ -1,4 +1,6 @@
 // The operation "reading a list": B, L and the tags that a list text states, for any bytes and any number of cells.
+#![tactic(auto)]
+
 ghost use Rattle.std.specs.Prelude.{◌≡◌, ◌++◌, ◌≤◌, length, take, drop};
 ghost use Rattle.refusal.specs.Outcome.{refused, answered_by};
 ghost use Rattle.list.specs.Reading.{reading_of, cells_after};

@@ -1,4 +1,6 @@
 // The operation "lookup": the number of a tag in an image, for any bytes and any tag.
+#![tactic(auto)]
+
 ghost use Rattle.std.specs.Prelude.{◌≡◌, ◌*◌, ◌+◌, ◌≤◌, ◌<◌};
 ghost use Rattle.refusal.specs.Outcome.{refused};
 ghost use Rattle.refusal.specs.Limits.{tags_max, groups_max, seed_max};

@@ -1,4 +1,6 @@
 // How checking and lookup begin: the image's length and line 0; and when a group is faulty.
+#![tactic(auto)]
+
 ghost use Rattle.std.specs.Prelude.{◌≡◌};
 ghost use Rattle.image.specs.View.{faulty};
 ghost use Rattle.opening.specs.Opening.{opening_of};

@@ -1,4 +1,6 @@
 // The parity of the ones that two words share.
+#![tactic(auto)]
+
 ghost use Rattle.std.specs.Prelude.{◌≡◌};
 ghost use Rattle.parity.specs.Parity.{parity};
 

@@ -1,5 +1,7 @@
 // The operation "counting parts", a second test of a seed (document 02, §8): the connected parts of the graph whose points are the places
 // and whose edges are the tags are found and counted. No tag is moved.
+#![tactic(auto)]
+
 mod worked;
 
 ghost use Rattle.std.specs.Prelude.{◌≡◌, ◌≤◌, length};

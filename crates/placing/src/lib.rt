@@ -1,4 +1,6 @@
 // The operation "placing a group": the least seed that some choice sequence fills, and the sequence taken under it.
+#![tactic(auto)]
+
 mod worked;
 
 ghost use Rattle.std.specs.Prelude.{◌≡◌};

@@ -1,4 +1,6 @@
 // The seeds of all groups, found before anything is written, and the plan that states them.
+#![tactic(auto)]
+
 mod worked;
 
 ghost use Rattle.std.specs.Prelude.{◌≡◌, ◌∷◌, ◌≤◌, suc, length};

@@ -1,4 +1,6 @@
 // The operation "planning": the seeds of all groups, before an image is written.
+#![tactic(auto)]
+
 mod worked;
 
 ghost use Rattle.std.specs.Prelude.{◌≡◌};

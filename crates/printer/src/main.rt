@@ -1,4 +1,6 @@
 // The index printer: reads one list text from standard input, and writes its image to standard output, or one line with the refusal.
+#![tactic(auto)]
+
 use libc::{STDIN_FILENO, STDOUT_FILENO};
 
 fn write_first(out: &[u8], count: usize) {

@@ -1,4 +1,6 @@
 // The index printer: the image of a list text, or one line with the refusal.
+#![tactic(auto)]
+
 ghost use Rattle.std.specs.Prelude.{◌≡◌, length};
 ghost use Rattle.printing.specs.Printing.{printed_count, printed_into};
 

@@ -1,4 +1,6 @@
 // Refusals: the reason for one, the place that it names, and the paper's number of each reason; and the ranges of documents 01 and 02.
+#![tactic(auto)]
+
 ghost use Rattle.std.specs.Prelude.{◌≡◌};
 ghost use Rattle.refusal.specs.Limits.{outside};
 ghost use Rattle.refusal.specs.Reason.{reason_number};

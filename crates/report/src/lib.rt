@@ -1,5 +1,7 @@
 // What the programs that run cases share: words, numbers and refusals printed on standard output, and a long list text. What is
 // printed is held to a stored output and not proved, so nothing here has a promise.
+#![tactic(auto)]
+
 use libc::STDOUT_FILENO;
 use refusal::Refusal;
 use text::LINE_LENGTH;

@@ -2,6 +2,8 @@
 //
 // A seed is tested by cuckoo insertion with a bounded eviction chain (document 001, section 4); the ones of the occupancy word drop
 // most seeds before that. The choices that the insertion ends with fill, but are not those taken: they are not kept.
+#![tactic(auto)]
+
 ghost use Rattle.std.specs.Prelude.{◌≡◌, ◌*◌, ◌≤◌, length};
 ghost use Rattle.refusal.specs.Limits.{group_max, limit_max, seed_max};
 ghost use Rattle.group.specs.Group.{group_under, least_seed};

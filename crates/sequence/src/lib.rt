@@ -1,4 +1,6 @@
 // The choice sequence taken for keys with two candidate places each.
+#![tactic(auto)]
+
 mod worked;
 
 ghost use Rattle.std.specs.Prelude.{◌≡◌, ◌≤◌};

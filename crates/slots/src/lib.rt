@@ -1,4 +1,6 @@
 // The slots of an image whose numbers are read into cells: the lowest that is misplaced, and the lowest that repeats a tag.
+#![tactic(auto)]
+
 ghost use Rattle.std.specs.Prelude.{◌≡◌, get_or};
 ghost use Rattle.std.proofs.Math.Option.{none};
 ghost use Rattle.lists.specs.First.{first};

@@ -1,4 +1,6 @@
 // The operation "strict check": whether an image is one that building writes for some list, for any bytes.
+#![tactic(auto)]
+
 mod worked;
 
 ghost use Rattle.std.specs.Prelude.{◌≡◌};

@@ -1,4 +1,6 @@
 // One group of the strict check: its tags are sorted and placed anew, and what they are given is compared.
+#![tactic(auto)]
+
 ghost use Rattle.std.specs.Prelude.{◌≡◌, not, length};
 ghost use Rattle.sorting.specs.Sorted.{sorted};
 ghost use Rattle.group.specs.Group.{taken};

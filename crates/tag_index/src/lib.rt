@@ -1,5 +1,7 @@
 // The C boundary: operations as functions that C and Rust link, each with one 64-bit answer. A slice is passed as a pointer and a
 // length, a reference to an array as a pointer.
+#![tactic(auto)]
+
 ghost use Rattle.std.specs.Prelude.{◌≡◌, length};
 ghost use Rattle.numbering.specs.FromText.{plan_from_text, written_from_text, buffer_from_text};
 ghost use Rattle.tag_index.specs.Calls.{plan_answer, write_answer, build_answer, check_answer, lookup_answer};

@@ -1,4 +1,6 @@
 // Building an index without tags, in one call.
+#![tactic(auto)]
+
 mod worked;
 
 ghost use Rattle.std.specs.Prelude.{◌≡◌, ◌≤◌, length};

@@ -1,4 +1,6 @@
 // Checking of an index without tags: whether it is one that lookup may trust, for any bytes.
+#![tactic(auto)]
+
 ghost use Rattle.std.specs.Prelude.{◌≡◌, ◌+◌, length};
 ghost use Rattle.refusal.specs.Limits.{groups_max};
 ghost use Rattle.lists.specs.First.{first};

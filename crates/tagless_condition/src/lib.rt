@@ -1,1 +1,2 @@
 // Definitions and laws only.
+#![tactic(auto)]

@@ -1,4 +1,6 @@
 // Building an index without tags from a list text: the text's list is read, and handed on.
+#![tactic(auto)]
+
 mod worked;
 
 ghost use Rattle.std.specs.Prelude.{◌≡◌, length};

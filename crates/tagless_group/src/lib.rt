@@ -1,4 +1,6 @@
 // The row of a tag and the choice that a word makes for it, in an index without tags.
+#![tactic(auto)]
+
 ghost use Rattle.std.specs.Prelude.{◌≡◌, ◌+◌, ◌*◌, ◌≤◌};
 ghost use Rattle.refusal.specs.Limits.{seed_max};
 ghost use Rattle.hash.specs.Formula.{K, product};

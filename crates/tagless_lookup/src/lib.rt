@@ -1,4 +1,6 @@
 // Lookup in an index without tags: the number of a tag, for any bytes and any tag.
+#![tactic(auto)]
+
 mod worked;
 
 ghost use Rattle.std.specs.Prelude.{◌≡◌, ◌≤◌, ◌<◌};

@@ -1,4 +1,6 @@
 // How checking and lookup of an index without tags begin: its length and line 0; and the line of a group.
+#![tactic(auto)]
+
 ghost use Rattle.std.specs.Prelude.{◌≡◌, suc, ◌≤◌, ◌<◌};
 ghost use Rattle.refusal.specs.Limits.{groups_max};
 ghost use Rattle.text.specs.Answer.{pair_meaning};

@@ -1,4 +1,6 @@
 // The seeds and words of all groups of an index without tags, found before anything is written.
+#![tactic(auto)]
+
 mod worked;
 
 ghost use Rattle.std.specs.Prelude.{◌≡◌, ◌≤◌, length};

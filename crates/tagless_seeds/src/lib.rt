@@ -1,6 +1,8 @@
 // The seed search of a group in an index without tags: the least seed below a limit that has a word, and its least word.
 //
 // The ones of the occupancy word drop most seeds; the others are decided by linear equations.
+#![tactic(auto)]
+
 mod worked;
 
 ghost use Rattle.std.specs.Prelude.{◌≡◌, ◌≤◌, length};

@@ -1,4 +1,6 @@
 // The index without tags that arrays state: line 0, and a line for each group.
+#![tactic(auto)]
+
 mod worked;
 
 ghost use Rattle.std.specs.Prelude.{◌≡◌, ◌++◌, ◌+◌, ◌*◌, ◌<◌, length, drop};

@@ -1,5 +1,7 @@
 // The points and the edges of each part of a graph, counted by the part's label; how many parts there are, and whether any has more edges
 // than points.
+#![tactic(auto)]
+
 ghost use Rattle.std.specs.Prelude.{◌≡◌, ◌≤◌, replicate};
 ghost use Rattle.refusal.specs.Limits.{group_max};
 ghost use Rattle.lists.specs.First.{first, is_some};

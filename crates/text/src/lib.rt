@@ -1,4 +1,6 @@
 // Columns, fields and the content of one line: what they read as. `lines` reads and writes the lines of a text.
+#![tactic(auto)]
+
 ghost use Rattle.std.specs.Prelude.{◌≡◌, ◌+◌, ◌*◌, ◌%◌, ◌<◌, ◌≤◌, [], ◌∷◌, length, take, drop, nat_lt};
 ghost use Rattle.refusal.specs.Limits.{tag_end};
 ghost use Rattle.columns.specs.Columns.{column_of, leading_from};

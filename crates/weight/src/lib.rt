@@ -1,4 +1,6 @@
 // The weight of a choice word: the order of choices as a number. Another order of choices is another `key_weight`.
+#![tactic(auto)]
+
 ghost use Rattle.std.specs.Prelude.{◌≡◌, ◌≤◌, ◌<◌};
 ghost use Rattle.filling.specs.Weight.{key_weight};
 ghost use Rattle.weight.specs.WordWeight.{word_weight, lighter_of};

@@ -1,4 +1,6 @@
 // The word of a group under a seed: the choice word of the sequence taken, which gives each tag a place of its own.
+#![tactic(auto)]
+
 ghost use Rattle.std.specs.Prelude.{◌≡◌, ◌≤◌, length};
 ghost use Rattle.refusal.specs.Limits.{group_max, seed_max};
 ghost use Rattle.group.specs.Group.{word_under};

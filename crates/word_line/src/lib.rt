@@ -1,4 +1,6 @@
 // The group lines of an index without tags: read where they stand, and written in place.
+#![tactic(auto)]
+
 mod worked;
 
 ghost use Rattle.std.specs.Prelude.{◌≡◌, ◌+◌, ◌≤◌, leb, ltb, length, take, drop};

@@ -1,4 +1,6 @@
 // The image that arrays state: line 0, the group lines, the slot lines.
+#![tactic(auto)]
+
 ghost use Rattle.std.specs.Prelude.{◌≡◌, ◌++◌, ◌+◌, ◌*◌, ◌≤◌, ◌<◌, length, drop};
 ghost use Rattle.text.specs.Line.{line_length};
 ghost use Rattle.image.specs.Sheet.{bytes_of, image_length};

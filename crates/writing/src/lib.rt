@@ -1,4 +1,6 @@
 // The operation "writing": the image of a list under a plan, at the beginning of a buffer.
+#![tactic(auto)]
+
 mod worked;
 
 ghost use Rattle.std.specs.Prelude.{◌≡◌, ◌≤◌, ◌<◌, length};
