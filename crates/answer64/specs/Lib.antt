@@ -1,2 +1,1 @@
 pub mod Answer64
-pub mod Answer64Laws

@@ -10,11 +10,11 @@ use lib.Seq.{take_at, drop_at}
 use borrow.Rule.Slice.PartMut.{put_mid, Post-is}
 use Rattle.refusal.specs.Limits.{group_max, seed_max}
 use Rattle.lists.specs.First.{first}
-use Rattle.lists.specs.SearchLaws.{Searched, searched-start, searched-turn, searched-found, searched-done}
+use Rattle.lists.proofs.SearchLaws.{Searched, searched-start, searched-turn, searched-found, searched-done}
 use Rattle.group.specs.Group.{taken, word_under}
-use Rattle.group.specs.WordLaws.{word-found, word_none}
+use Rattle.group.proofs.WordLaws.{word-found, word_none}
 use Rattle.numbering.specs.Parts.{part_start, part_of}
-use Rattle.numbering.specs.PartsLaws.{part_length, part-is, part-bounds}
+use Rattle.numbering.proofs.PartsLaws.{part_length, part-is, part-bounds}
 use Rattle.numbering.specs.GroupSlots.{group_slots}
 use Rattle.arrange.specs.Arrange.{Arrangeable, AllArrangeable, slots_of_part, all_slots, slots_into, unfilled_part}
 use Rattle.arrange.specs.SlotsLaws.{slots-none, slots-more, slots_length, slots_kept}

@@ -7,17 +7,17 @@ use Rattle.std.proofs.Math.ListN.{length}
 use Rattle.std.proofs.Math.Seq.{ext_get_or}
 use Rattle.hash.specs.Formula.{hashed, multiplier, place_of}
 use Rattle.lists.specs.Occurs.{distinct}
-use Rattle.lists.specs.OccursLaws.{occurs-not, distinct_head, distinct_tail, get_or-occurs, occurs-get_or, distinct-get_or}
+use Rattle.lists.proofs.OccursLaws.{occurs-not, distinct_head, distinct_tail, get_or-occurs, occurs-get_or, distinct-get_or}
 use Rattle.filling.specs.Filling.{place_by, Fills}
-use Rattle.filling.specs.LeastLaws.{feasible-fills}
+use Rattle.filling.proofs.LeastLaws.{feasible-fills}
 use Rattle.group.specs.Group.{both_places, group_under, taken}
-use Rattle.group.specs.GroupLaws.{fills-length, taken-fills}
+use Rattle.group.proofs.GroupLaws.{fills-length, taken-fills}
 use Rattle.bits.specs.WordBits.{choice_in}
 use Rattle.bits.specs.WordBitsLaws.{word-choice}
 use Rattle.lists.specs.UpTo.{up_to}
-use Rattle.lists.specs.UpToLaws.{up_to-length, up_to-at}
+use Rattle.lists.proofs.UpToLaws.{up_to-length, up_to-at}
 use Rattle.numbering.specs.Number.{choice_of, place_in, tag_numbered}
-use Rattle.numbering.specs.NumberLaws.{ImageOf, image-onto, place-apart, place_inside, some-listed, tag_numbered-is}
+use Rattle.numbering.proofs.NumberLaws.{ImageOf, image-onto, place-apart, place_inside, some-listed, tag_numbered-is}
 use Rattle.numbering.specs.GroupSlots.{group_slots}
 use Rattle.arrange.specs.Arrange.{Arrangeable}
 

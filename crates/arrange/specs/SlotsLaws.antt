@@ -7,12 +7,12 @@ use native.Mathlib.Omega.{arith}
 use Rattle.std.proofs.Math.ListN.{length}
 use Rattle.std.proofs.Common.{length-append, length-drop}
 use Rattle.lists.specs.UpTo.{up_to}
-use Rattle.lists.specs.UpToLaws.{flatten-more}
+use Rattle.lists.proofs.UpToLaws.{flatten-more}
 use Rattle.group.specs.Group.{taken}
 use Rattle.numbering.specs.Parts.{part_start, part_of, Parts}
-use Rattle.numbering.specs.PartsLaws.{start-inside, part_length}
+use Rattle.numbering.proofs.PartsLaws.{start-inside, part_length}
 use Rattle.arrange.specs.Arrange.{slots_of_part, all_slots, slots_into}
-use Rattle.numbering.specs.SlotsLaws.{slots_length as group_slots-length}
+use Rattle.numbering.proofs.SlotsLaws.{slots_length as group_slots-length}
 
 module _ (ordered ends seeds : List ℕ) where
   -- The slots of no group are none.

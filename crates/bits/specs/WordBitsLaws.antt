@@ -10,7 +10,7 @@ use Rattle.std.proofs.Math.Pow.{pow-lt}
 use Rattle.bits.specs.Bit.{bit_at}
 use Rattle.bits.specs.BitLaws.{bit_below, bit-same, bit-other, set_bit-below}
 use Rattle.filling.specs.Word.{choice_number, word_of, choices_of}
-use Rattle.filling.specs.WordLaws.{number-choice, other-number, word-choices}
+use Rattle.filling.proofs.WordLaws.{number-choice, other-number, word-choices}
 use Rattle.filling.specs.Separate.{by_index}
 use Rattle.filling.specs.Insertion.{Toggled}
 use Rattle.bits.specs.WordBits.{choice_in, toggle_bit, with_choice}

@@ -6,7 +6,7 @@ use Rattle.refusal.specs.Outcome.{Outcome, answered, refused}
 use Rattle.numbering.specs.Planning.{planning_of, plan_after}
 use Rattle.numbering.specs.Writing.{writing_of, buffer_written}
 use Rattle.numbering.specs.Building.{building_of, buffer_after}
-use Rattle.numbering.specs.BuildingLaws.{building-unplanned, building-as-written, buffer-as-written, buffer-kept}
+use Rattle.numbering.proofs.BuildingLaws.{building-unplanned, building-as-written, buffer-as-written, buffer-kept}
 use Rattle.condition3.specs.Condition3.{Condition3}
 use Rattle.condition3_theorem.specs.Condition3Theorem.{tags-of-words, condition3}
 

@@ -4,16 +4,16 @@ use Rattle.std.proofs.Common.{sym, ◌∙◌, arith, eqb-true, eq-eqb}
 use Rattle.refusal.specs.Limits.{tag_end}
 use Rattle.refusal.specs.Outcome.{Outcome, answered, refused}
 use Rattle.lists.specs.First.{first}
-use Rattle.refusal.specs.ChecksLaws.{◌then◌, in_order-answered}
-use Rattle.refusal.specs.PlaceLaws.{PlaceBelow, below-checks, first_below, numbered-checks}
+use Rattle.refusal.proofs.ChecksLaws.{◌then◌, in_order-answered}
+use Rattle.refusal.proofs.PlaceLaws.{PlaceBelow, below-checks, first_below, numbered-checks}
 use Rattle.image.specs.View.{view_of, groups_in}
 use Rattle.image.specs.Checking.{opening_checks, number_checks, checking_checks, checking_of}
 use Rattle.strict.specs.AsBuilt.{not_as_built}
 use Rattle.strict.specs.StrictCheck.{strict_checks, strict_check_of}
-use Rattle.strict.specs.RebuiltLaws.{held-earlier}
-use Rattle.strict.specs.StrictTheorem.{nineteen-decides, refused-first}
+use Rattle.strict.proofs.RebuiltLaws.{held-earlier}
+use Rattle.strict.proofs.StrictTheorem.{nineteen-decides, refused-first}
 use Rattle.answer64.specs.Answer64.{outcome64}
-use Rattle.answer64.specs.Answer64Laws.{Fits, fits-of, answers-apart}
+use Rattle.answer64.proofs.Answer64Laws.{Fits, fits-of, answers-apart}
 use Rattle.opening.specs.PlaceLaws.{image_lines, checking-place}
 use Rattle.strict_condition.specs.Condition.{Ours}
 use Rattle.calls_strict.specs.Strict.{strict_check_answer, StrictAnswerCondition}

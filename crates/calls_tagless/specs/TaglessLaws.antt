@@ -5,15 +5,15 @@ use Rattle.std.proofs.Common.{◌∙◌, arith}
 use Rattle.std.proofs.Math.Option.{Option, none, some, get_or}
 use Rattle.refusal.specs.Limits.{tag_end, tags_max, unwired}
 use Rattle.refusal.specs.Outcome.{Outcome, answered, refused, answered_by}
-use Rattle.refusal.specs.OutcomeLaws.{answered-of-followed}
+use Rattle.refusal.proofs.OutcomeLaws.{answered-of-followed}
 use Rattle.refusal.specs.Checks.{in_order}
-use Rattle.refusal.specs.ChecksLaws.{◌then◌, in_order-pass, in_order-append, in_order-answered}
-use Rattle.refusal.specs.PlaceLaws.{PlaceBelow, below-checks, below-cond, met_at-below, met-below, first_below}
-use Rattle.refusal.specs.PlaceLaws.{Numbered, numbered-checks, numbered-followed, numbered-cond}
+use Rattle.refusal.proofs.ChecksLaws.{◌then◌, in_order-pass, in_order-append, in_order-answered}
+use Rattle.refusal.proofs.PlaceLaws.{PlaceBelow, below-checks, below-cond, met_at-below, met-below, first_below}
+use Rattle.refusal.proofs.PlaceLaws.{Numbered, numbered-checks, numbered-followed, numbered-cond}
 use Rattle.hash.specs.Formula.{group_of}
-use Rattle.hash.specs.FormulaLaws.{group-below}
+use Rattle.hash.proofs.FormulaLaws.{group-below}
 use Rattle.text.specs.Line.{line_at, image_header}
-use Rattle.text.specs.LineLaws.{image-header-only}
+use Rattle.text.proofs.LineLaws.{image-header-only}
 use Rattle.image.specs.View.{count_in, groups_in, start_in, end_in}
 use Rattle.image.specs.Checking.{malformed_in}
 use Rattle.image.specs.Lookup.{Found, number, unknown, group_checks}
@@ -22,15 +22,15 @@ use Rattle.from_text.specs.PlaceLaws.{text_lines, list-numbered}
 use Rattle.tagless_image.specs.View.{tagless_view, word_in}
 use Rattle.tagless_image.specs.Checking.{tagless_opening, tagless_checks, tagless_checking_of}
 use Rattle.tagless_image.specs.Lookup.{tagless_lookup_checks, number_by, tagless_in_group, tagless_lookup_of}
-use Rattle.tagless_image.specs.LookupLaws.{lookup-below}
+use Rattle.tagless_image.proofs.LookupLaws.{lookup-below}
 use Rattle.tagless_opening.specs.Opening.{tagless_opening_of, TaglessOpens}
 use Rattle.tagless_opening.specs.OpeningLaws.{opening-answered}
-use Rattle.tagless_lookup.specs.CheckedLaws.{lookup-condition2}
+use Rattle.tagless_lookup.proofs.CheckedLaws.{lookup-condition2}
 use Rattle.tagless.specs.Building.{tagless_building_checks, tagless_building_of}
 use Rattle.tagless.specs.FromText.{tagless_from_text}
 use Rattle.tagless_from_text.specs.PlaceLaws.{tagless-text-place, answered-most}
 use Rattle.answer64.specs.Answer64.{answer64, found_number}
-use Rattle.answer64.specs.Answer64Laws.{Fits, fits-of, SlotFound, found-fits, found-apart, answers-apart}
+use Rattle.answer64.proofs.Answer64Laws.{Fits, fits-of, SlotFound, found-fits, found-apart, answers-apart}
 use Rattle.opening.specs.PlaceLaws.{image_lines}
 use Rattle.calls_tagless.specs.Tagless.{tagless_build_answer, tagless_check_answer, tagless_lookup_answer, TaglessAnswerCondition2}
 

@@ -4,9 +4,9 @@ use Rattle.std.proofs.Common.{arith}
 use Rattle.refusal.specs.Limits.{group_max}
 use Rattle.filling.specs.Separate.{key_place}
 use Rattle.places.specs.Array.{entry_of, Candidates, keys_of, laid_into}
-use Rattle.places.specs.ArrayLaws.{laid-length, laid-entry, laid-keys}
+use Rattle.places.proofs.ArrayLaws.{laid-length, laid-entry, laid-keys}
 use Rattle.group.specs.Group.{group_under}
-use Rattle.group.specs.GroupLaws.{group-size, group-below}
+use Rattle.group.proofs.GroupLaws.{group-size, group-below}
 
 module _
     (tags : List ℕ) (s : ℕ) (before : List ℕ) {places : List ℕ} (few : length tags ≤ group_max) (cells : length before ≡ 2 * group_max)

@@ -5,7 +5,7 @@ use Rattle.std.proofs.Math.Option.{Option}
 use Rattle.refusal.specs.Limits.{tags_max, groups_max, unwired}
 use Rattle.refusal.specs.Outcome.{Outcome, answered, refused}
 use Rattle.image.specs.View.{View, start_in, seed_in, slot_in, faulty}
-use Rattle.image.specs.SameNumbersLaws.{SameNumbers}
+use Rattle.image.specs.SameNumbers.{SameNumbers}
 use Rattle.slots.specs.Cells.{cells_view, Legal}
 use Rattle.slots.specs.declared.SlotFault.{SlotFault}
 use Rattle.slots.specs.declared.SlotFault.TheVariants.{Misplaced, Repeated, Nowhere}

@@ -13,17 +13,18 @@ use Rattle.std.proofs.Math.Seq.{get_or-set_other}
 use Rattle.refusal.specs.Limits.{seed_max, tags_max, groups_max}
 use Rattle.refusal.specs.Outcome.{Outcome, answered, refused}
 use Rattle.lists.specs.First.{first, is_some}
-use Rattle.lists.specs.FirstLaws.{first_some, first-none, first_out, first_more, first_cong}
+use Rattle.lists.proofs.FirstLaws.{first_some, first-none, first_out, first_more, first_cong}
 use Rattle.refusal.specs.Checks.{in_order}
-use Rattle.refusal.specs.ChecksLaws.{in_order-append}
+use Rattle.refusal.proofs.ChecksLaws.{in_order-append}
 use Rattle.text.specs.Line.{line_at, group_line, slot_line}
-use Rattle.text.specs.LineLaws.{group-only}
+use Rattle.text.proofs.LineLaws.{group-only}
 use Rattle.text.specs.TagLines.{tag_in, no_tag_from, passed, tags_stored}
-use Rattle.text.specs.TagLinesLaws.{tag-slot, line_before, line-at, stored-length, stored-holds}
+use Rattle.text.proofs.TagLinesLaws.{tag-slot, line_before, line-at, stored-length, stored-holds}
 use Rattle.image.specs.View.{View, view_of, count_in, groups_in, start_in, seed_in, end_in, slot_line_in, slot_in, faulty}
 use Rattle.image.specs.Checking.{opening_checks, malformed_in, holds_unwired, misplaced, repeated, number_checks, checking_checks, checking_of}
-use Rattle.image.specs.FaultLaws.{fair-of-faulty}
-use Rattle.image.specs.SameNumbersLaws.{SameNumbers, same-unwired, same-faulty, same-misplaced, same-repeated}
+use Rattle.image.proofs.FaultLaws.{fair-of-faulty}
+use Rattle.image.specs.SameNumbers.{SameNumbers}
+use Rattle.image.proofs.SameNumbersLaws.{same-unwired, same-faulty, same-misplaced, same-repeated}
 use Rattle.opening.specs.Opening.{opening_of, Opens}
 use Rattle.opening.specs.OpeningLaws.{opening-refused, opening-passes, opening-answered}
 use Rattle.slots.specs.Cells.{cells_view, Legal, Regular}

@@ -8,7 +8,7 @@ use lib.Dec.{lit<}
 use lib.ListN.{length, get_or, take, drop}
 use lib.Seq.{drop-cons}
 use Rattle.digits.specs.Digits.{packed}
-use Rattle.digits.specs.DigitsLaws.{Below}
+use Rattle.digits.proofs.DigitsLaws.{Below}
 use Rattle.columns.specs.Word.{each, low}
 
 -- Four bytes of a text, one by one.

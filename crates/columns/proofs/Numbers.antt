@@ -9,7 +9,7 @@ use lib.ListN.{length, get_or, take, drop}
 use lib.Dec.{lit<}
 use borrow.Author.Tests.{eq-eqb, ne_eqb}
 use Rattle.digits.specs.Digits.{packed}
-use Rattle.digits.specs.DigitsLaws.{Below}
+use Rattle.digits.proofs.DigitsLaws.{Below}
 use Rattle.columns.specs.Word.{each, low, value_behind, number_in, written, columns_read}
 use Rattle.columns.proofs.Bytes.{four_at, four-bytes-at, eight-small, low-packed, digits-only}
 

@@ -11,7 +11,7 @@ use lib.ListN.{length, get_or, take, drop}
 use lib.Seq.{take-add}
 use borrow.Author.Tests.{eq-eqb, ne_eqb, eqb-true, eqb-false, lt-ltb}
 use Rattle.digits.specs.Digits.{packed}
-use Rattle.digits.specs.DigitsLaws.{Below, packed-same}
+use Rattle.digits.proofs.DigitsLaws.{Below, packed-same}
 use Rattle.columns.specs.Columns.{column_of, leading_from, both, fours_in}
 use Rattle.columns.specs.ColumnsLaws.{leading-first}
 use Rattle.columns.specs.Word.{each, low, value_behind, number_in, written, columns_read}

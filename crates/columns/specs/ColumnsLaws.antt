@@ -2,7 +2,7 @@
 use Rattle.std.specs.Prelude.{◌≡◌, refl, Bool, true, false, cond, ◌&&◌, List, [], ◌∷◌, ◌++◌, ℕ, ◌+◌, ◌*◌, ◌%◌, ◌<◌, eqb, ltb}
 use Rattle.std.proofs.Math.Option.{Option, none, some}
 use Rattle.std.proofs.Common.{eqb-true, ltb-true}
-use Rattle.lists.specs.BoolLaws.{both-of-and, some-of-cond}
+use Rattle.lists.proofs.BoolLaws.{both-of-and, some-of-cond}
 use Rattle.columns.specs.Columns.{column_of, leading_from}
 
 -- What further columns make of the number before them.

@@ -1,2 +1,1 @@
 pub mod Condition3
-pub mod Sentences

@@ -12,27 +12,27 @@ use Rattle.std.proofs.Math.ListN.{length}
 use borrow.Author.Tests.{ltb-true, ltb-false, le-ltb, eq-eqb, ne_eqb}
 use Rattle.refusal.specs.Limits.{tag_end, tags_max, groups_max, group_max, seed_max, unwired}
 use Rattle.refusal.specs.Outcome.{Outcome, answered}
-use Rattle.lists.specs.FirstLaws.{first_out, is_some-of-some, is_some-of-none}
-use Rattle.refusal.specs.ChecksLaws.{met-false}
+use Rattle.lists.proofs.FirstLaws.{first_out, is_some-of-some, is_some-of-none}
+use Rattle.refusal.proofs.ChecksLaws.{met-false}
 use Rattle.hash.specs.Formula.{group_of, place_of}
-use Rattle.hash.specs.FormulaLaws.{group-below}
+use Rattle.hash.proofs.FormulaLaws.{group-below}
 use Rattle.text.specs.Line.{line_length}
 use Rattle.lists.specs.Occurs.{occurs}
-use Rattle.lists.specs.OccursLaws.{occurs-not}
+use Rattle.lists.proofs.OccursLaws.{occurs-not}
 use Rattle.filling.specs.Filling.{place_by}
 use Rattle.group.specs.Group.{both_places}
 use Rattle.image.specs.Sheet.{Sheet, bytes_of, image_length}
-use Rattle.image.specs.SheetLaws.{bytes-length, header-reads, group_reads, slot-reads}
+use Rattle.image.proofs.SheetLaws.{bytes-length, header-reads, group_reads, slot-reads}
 use Rattle.image.specs.View.{View, view_of, count_in, groups_in, start_in, seed_in, end_in, slot_line_in, slot_in, candidate_in}
 use Rattle.image.specs.Checking.{opening_checks, group_of_slot, holds_unwired, misplaced, repeated}
 use Rattle.image.specs.Lookup.{Found, number, unknown}
 use Rattle.image.specs.Fair.{LiesIn, AllFair}
-use Rattle.image.specs.FaultLaws.{faulty-of-fair, lies-once, group_of_slot-lies}
-use Rattle.image.specs.CheckedLookupLaws.{Sound, slot_in-reads, Looked, found, nowhere, own-placed}
+use Rattle.image.proofs.FaultLaws.{faulty-of-fair, lies-once, group_of_slot-lies}
+use Rattle.image.proofs.CheckedLookupLaws.{Sound, slot_in-reads, Looked, found, nowhere, own-placed}
 use Rattle.numbering.specs.Members.{members, start_of}
-use Rattle.numbering.specs.MembersLaws.{start-zero, start-all, start-suc}
+use Rattle.numbering.proofs.MembersLaws.{start-zero, start-all, start-suc}
 use Rattle.numbering.specs.Number.{choice_of, place_in, number_of, tag_numbered}
-use Rattle.numbering.specs.NumberLaws.{Placed, number-below, number-apart, number-onto, AllFill, own_place, all_placed, tag_numbered-is}
+use Rattle.numbering.proofs.NumberLaws.{Placed, number-below, number-apart, number-onto, AllFill, own_place, all_placed, tag_numbered-is}
 use Rattle.numbering.specs.Writing.{sheet_of}
 
 -- A view that reads as a sheet states.

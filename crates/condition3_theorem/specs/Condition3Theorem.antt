@@ -7,40 +7,40 @@ use Rattle.std.proofs.Math.Bool.{false}
 use Rattle.std.proofs.Math.Option.{Option, none, some}
 use borrow.Author.Tests.{ltb-false, le-ltb, not-true}
 use Rattle.refusal.specs.Limits.{tag_end, tags_max, groups_max, group_max, limit_max, seed_max, unwired}
-use Rattle.refusal.specs.LimitsLaws.{outside-not, inside}
+use Rattle.refusal.proofs.LimitsLaws.{outside-not, inside}
 use Rattle.refusal.specs.Outcome.{Outcome, answered, refused}
 use Rattle.lists.specs.First.{first, is_some}
-use Rattle.lists.specs.FirstLaws.{first_some, first-none, first_found, first_out, none-of-is_some}
+use Rattle.lists.proofs.FirstLaws.{first_some, first-none, first_found, first_out, none-of-is_some}
 use Rattle.refusal.specs.Checks.{Check, Pass}
-use Rattle.refusal.specs.ChecksLaws.{◌then◌, met-false, false-of-met, passed, in_order-pass}
+use Rattle.refusal.proofs.ChecksLaws.{◌then◌, met-false, false-of-met, passed, in_order-pass}
 use Rattle.lists.specs.Occurs.{occurs}
-use Rattle.lists.specs.OccursLaws.{occurs-get_or}
+use Rattle.lists.proofs.OccursLaws.{occurs-get_or}
 use Rattle.group.specs.Group.{least_seed, taken}
-use Rattle.group.specs.GroupLaws.{LeastSeed, least_seed-none, taken-least}
+use Rattle.group.proofs.GroupLaws.{LeastSeed, least_seed-none, taken-least}
 use Rattle.group.specs.Ascending.{Ascending}
-use Rattle.group.specs.AscendingLaws.{ascending-of-check, check-of-ascending, ascending-distinct}
+use Rattle.group.proofs.AscendingLaws.{ascending-of-check, check-of-ascending, ascending-distinct}
 use Rattle.group.specs.Unwired.{FirstWired}
-use Rattle.group.specs.UnwiredLaws.{wired-of-check, check-of-wired, wired-absent}
+use Rattle.group.proofs.UnwiredLaws.{wired-of-check, check-of-wired, wired-absent}
 use Rattle.image.specs.Sheet.{Sheet, image_length}
-use Rattle.image.specs.SheetLaws.{group_at_lem}
+use Rattle.image.proofs.SheetLaws.{group_at_lem}
 use Rattle.image.specs.View.{view_of}
 use Rattle.image.specs.Checking.{checking_checks, checking_of}
-use Rattle.image.specs.CheckedLookupLaws.{Sound, pass-of-sound, Looked, image-ends}
+use Rattle.image.proofs.CheckedLookupLaws.{Sound, pass-of-sound, Looked, image-ends}
 use Rattle.image.specs.Lookup.{number, unknown, lookup_of}
 use Rattle.numbering.specs.Members.{members}
-use Rattle.numbering.specs.MembersLaws.{start-all, start-before}
+use Rattle.numbering.proofs.MembersLaws.{start-all, start-before}
 use Rattle.numbering.specs.Number.{number_of, tag_numbered}
-use Rattle.numbering.specs.NumberLaws.{number-below, number-apart, number-onto, AllFill, all_placed, tag_numbered-is}
+use Rattle.numbering.proofs.NumberLaws.{number-below, number-apart, number-onto, AllFill, all_placed, tag_numbered-is}
 use Rattle.numbering.specs.Plan.{planned_groups, planned_seed}
-use Rattle.numbering.specs.PlanLaws.{plan-groups, plan-seed, no-plan-groups}
+use Rattle.numbering.proofs.PlanLaws.{plan-groups, plan-seed, no-plan-groups}
 use Rattle.numbering.specs.Planning.{too_large, seedless, earlier_checks, planning_of, seed_taken, plan_after}
-use Rattle.numbering.specs.PlanningLaws.{planning-seedless, planning-answered, planning-says, planning-seven, plan-yielded, plan-refused}
-use Rattle.numbering.specs.PlanningLaws.{seed-least}
+use Rattle.numbering.proofs.PlanningLaws.{planning-seedless, planning-answered, planning-says, planning-seven, plan-yielded, plan-refused}
+use Rattle.numbering.proofs.PlanningLaws.{seed-least}
 use Rattle.numbering.specs.Writing.{sheet_of, choices_under, image_under, planned_image, writing_of, buffer_written}
-use Rattle.numbering.specs.WritingLaws.{image-length, Ready, ready-of-pass, ready-fill, writing-says, writing-written}
+use Rattle.numbering.proofs.WritingLaws.{image-length, Ready, ready-of-pass, ready-fill, writing-says, writing-written}
 use Rattle.numbering.specs.Building.{choices_taken, image_of, building_of, buffer_after}
-use Rattle.numbering.specs.BuildingLaws.{building-seedless, building-answered, building-short, building-seven}
-use Rattle.numbering.specs.BuildingLaws.{answered-says, buffer-as-written, building-as-written, buffer-written}
+use Rattle.numbering.proofs.BuildingLaws.{building-seedless, building-answered, building-short, building-seven}
+use Rattle.numbering.proofs.BuildingLaws.{answered-says, buffer-as-written, building-as-written, buffer-written}
 use Rattle.condition3_theorem.specs.BuiltLaws.{Reads, InRange, reads-back, built-many, built-sound, built-listed, built-unlisted}
 use Rattle.condition3.specs.Condition3.{NothingFills, HasSeed, LowestWithout, EarlierChecks, Serves, SeedCondition3}
 use Rattle.condition3.specs.Condition3.{PlanningCondition3, Accepted, WritingCondition3, Condition3}

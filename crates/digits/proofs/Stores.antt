@@ -5,7 +5,7 @@ use Prim.Native.Nat.{ℕ, suc, ◌+◌, ◌≤◌}
 use native.Mathlib.Omega.{arith}
 use lib.ListN.{length, set}
 use Rattle.lists.specs.Written.{written_at}
-use Rattle.lists.specs.WrittenLaws.{written-stores}
+use Rattle.lists.proofs.WrittenLaws.{written-stores}
 
 -- Eight bytes stored one behind another are a piece of eight bytes.
 pub eight-written : (bytes : List ℕ) (at a b c d e f g h : ℕ) → at + 8 ≤ length bytes

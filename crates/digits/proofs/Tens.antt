@@ -6,7 +6,7 @@ use native.Mathlib.Omega.{arith}
 use lib.Bits.{bit_and, and_block, and_mask}
 use lib.Dec.{lit<}
 use Rattle.digits.specs.Digits.{digits, packed}
-use Rattle.digits.specs.DigitsLaws.{pair, eight-digits}
+use Rattle.digits.proofs.DigitsLaws.{pair, eight-digits}
 
 -- The lowest pair p, with q in the bits above it: its tens stay, and what the division moves down from q is masked away.
 lowest : (p q mask : ℕ) → p < 100

@@ -1,5 +1,2 @@
 pub mod Digits
-pub mod DigitsLaws
 pub mod Width
-pub mod WidthLaws
-pub mod Examples

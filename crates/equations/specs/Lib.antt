@@ -1,6 +1,3 @@
 pub mod Answer
 pub mod Equation
-pub mod EquationLaws
 pub mod Stated
-pub mod StatedLaws
-pub mod SystemLaws

@@ -4,10 +4,11 @@ use Rattle.std.specs.Prelude.{◌≡◌, refl, List, [], ◌∷◌, ℕ, ◌≤�
 use Rattle.std.proofs.Math.Option.{none}
 use Rattle.std.proofs.Common.{arith, ltb-false}
 use Rattle.refusal.specs.Limits.{text_max, tags_max, groups_max, outside}
-use Rattle.refusal.specs.LimitsLaws.{inside}
+use Rattle.refusal.proofs.LimitsLaws.{inside}
 use Rattle.refusal.specs.Checks.{met}
-use Rattle.refusal.specs.ChecksLaws.{◌then◌, false-of-met, passed, checks_before}
-use Rattle.refusal.specs.PlaceLaws.{PlaceBelow, below-checks, below-followed, met-below, first_below, Numbered, numbered-checks}
+use Rattle.refusal.specs.ChecksBefore.{checks_before}
+use Rattle.refusal.proofs.ChecksLaws.{◌then◌, false-of-met, passed}
+use Rattle.refusal.proofs.PlaceLaws.{PlaceBelow, below-checks, below-followed, met-below, first_below, Numbered, numbered-checks}
 use Rattle.list.specs.Reading.{line_count, reading_checks, reading_of}
 use Rattle.numbering.specs.Plan.{planned_groups}
 use Rattle.numbering.specs.Planning.{earlier_checks, planning_checks, planning_of}

@@ -5,7 +5,7 @@ use Rattle.std.proofs.Math.Path.{sym}
 use Rattle.std.proofs.Common.{◌∙◌, ap, arith, length-append, take_at, lt-ltb, le-ltb}
 use Rattle.refusal.specs.Limits.{text_max, tags_max}
 use Rattle.refusal.specs.Outcome.{Outcome, answered, refused, answered_by}
-use Rattle.refusal.specs.OutcomeLaws.{answered-of-by, followed-answered, followed-refused, left-answered, left-refused}
+use Rattle.refusal.proofs.OutcomeLaws.{answered-of-by, followed-answered, followed-refused, left-answered, left-refused}
 use Rattle.lists.specs.First.{met_at}
 use Rattle.refusal.specs.Checks.{met, in_order}
 use Rattle.list.specs.Reading.{Listed, reading_of, cells_after}

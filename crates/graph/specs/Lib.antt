@@ -3,14 +3,4 @@ pub mod Graph
 pub mod Part
 pub mod Parts
 pub mod Sequences
-pub mod HowManyLaws
 pub mod Label
-pub mod ConnectedLaws
-pub mod MergeLaws
-pub mod RoomLaws
-pub mod SequencesLaws
-pub mod NumberLaws
-pub mod ListedLaws
-pub mod PartLaws
-pub mod GraphTheorem
-pub mod Examples

@@ -1,9 +1,4 @@
 pub mod Group
-pub mod GroupLaws
-pub mod WordLaws
 pub mod Ascending
-pub mod AscendingLaws
 pub mod Unwired
-pub mod UnwiredLaws
 pub mod Placing
-pub mod Examples

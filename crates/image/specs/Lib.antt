@@ -1,15 +1,8 @@
 pub mod Sheet
-pub mod SheetLaws
 pub mod View
 pub mod Holds
 pub mod Fair
 pub mod Checking
 pub mod Lookup
 pub mod LinesRead
-pub mod GroupLinesLaws
-pub mod UnwiredLaws
-pub mod FaultLaws
-pub mod CheckedLookupLaws
-pub mod LookupLaws
-pub mod Examples
-pub mod SameNumbersLaws
+pub mod SameNumbers

@@ -8,19 +8,19 @@ use Rattle.std.proofs.Math.Numerals.{add-one}
 use Rattle.refusal.specs.Limits.{group_max}
 use Rattle.bits.specs.Bit.{set_bit}
 use Rattle.filling.specs.Word.{choice_number, word_of}
-use Rattle.filling.specs.WordLaws.{choice_number-same}
+use Rattle.filling.proofs.WordLaws.{choice_number-same}
 use Rattle.filling.specs.Taken.{sequence_taken}
 use Rattle.filling.specs.Weight.{key_weight, choice_weight, total}
-use Rattle.filling.specs.WeightLaws.{key_weight-falls}
+use Rattle.filling.proofs.WeightLaws.{key_weight-falls}
 use Rattle.filling.specs.Insertion.{Lightest, NoneWith, Occupies, Insertion, Walk}
-use Rattle.filling.specs.InsertionLaws.{insertion-start, insertion-turn, insertion-done, insertion-stuck, insertion-returned, walk_start}
-use Rattle.filling.specs.InsertionLaws.{walk-free, walk-occupied, walk-returned, walk_turn, lighter-lightest, only-lightest}
-use Rattle.filling.specs.InsertionLaws.{neither-separate, lightest-same}
-use Rattle.filling.specs.LightestLaws.{second-place-lightest}
+use Rattle.filling.proofs.InsertionLaws.{insertion-start, insertion-turn, insertion-done, insertion-stuck, insertion-returned, walk_start}
+use Rattle.filling.proofs.InsertionLaws.{walk-free, walk-occupied, walk-returned, walk_turn, lighter-lightest, only-lightest}
+use Rattle.filling.proofs.InsertionLaws.{neither-separate, lightest-same}
+use Rattle.filling.proofs.LightestLaws.{second-place-lightest}
 use Rattle.bits.specs.WordBits.{choice_in, toggle_bit, with_choice}
 use Rattle.bits.specs.WordBitsLaws.{toggle-below, toggle-toggled, choice-own, choice-kept, choice-grown}
 use Rattle.places.specs.Array.{entry_of, Candidates, keys_of}
-use Rattle.places.specs.ArrayLaws.{entry_other, entry-part, candidates-fewer}
+use Rattle.places.proofs.ArrayLaws.{entry_other, entry-part, candidates-fewer}
 use Rattle.insertion.specs.Answer.{inserted_meaning}
 use Rattle.insertion.specs.TakenWordLaws.{lightest-word, word-lightest, nothing-word}
 use Rattle.weight.specs.WordWeight.{word_weight, lighter_of}

@@ -13,9 +13,9 @@ use Rattle.std.proofs.Math.Seq.{ext_get_or}
 use borrow.Author.Tests.{eqb-true, eq-eqb, ne_eqb}
 use Rattle.refusal.specs.Limits.{group_max}
 use Rattle.lists.specs.First.{first}
-use Rattle.lists.specs.FirstLaws.{first_some, first_found, first_out}
+use Rattle.lists.proofs.FirstLaws.{first_some, first_found, first_out}
 use Rattle.lists.specs.UpTo.{up_to}
-use Rattle.lists.specs.UpToLaws.{up_to-length, up_to-at}
+use Rattle.lists.proofs.UpToLaws.{up_to-length, up_to-at}
 use Rattle.filling.specs.Separate.{Separate}
 use Rattle.filling.specs.Insertion.{Taken}
 use Rattle.bits.specs.WordBits.{choice_in}

@@ -4,19 +4,19 @@ use Rattle.std.proofs.Common.{sym, ◌∙◌, arith}
 use Rattle.std.proofs.Math.Option.{Option, none, some, map}
 use Rattle.lists.specs.UpTo.{up_to}
 use Rattle.filling.specs.Separate.{by_index, key_place, Separate}
-use Rattle.filling.specs.FillingLaws.{separate-same, fills-apart}
+use Rattle.filling.proofs.FillingLaws.{separate-same, fills-apart}
 use Rattle.filling.specs.Word.{word_of, choices_of}
-use Rattle.filling.specs.WordLaws.{choices_of-length, choices-word, word_below}
+use Rattle.filling.proofs.WordLaws.{choices_of-length, choices-word, word_below}
 use Rattle.filling.specs.Taken.{sequence_taken}
-use Rattle.filling.specs.TakenLaws.{sequence-fills, sequence-none}
+use Rattle.filling.proofs.TakenLaws.{sequence-fills, sequence-none}
 use Rattle.filling.specs.Weight.{key_weight}
 use Rattle.filling.specs.Insertion.{Lightest}
-use Rattle.filling.specs.InsertionLaws.{lightest-same}
-use Rattle.filling.specs.LightestLaws.{lightest-taken, separate-fills, taken-lightest}
+use Rattle.filling.proofs.InsertionLaws.{lightest-same}
+use Rattle.filling.proofs.LightestLaws.{lightest-taken, separate-fills, taken-lightest}
 use Rattle.bits.specs.WordBits.{choice_in}
 use Rattle.bits.specs.WordBitsLaws.{choices_of-at, word-choice}
 use Rattle.places.specs.Array.{entry_of, keys_of}
-use Rattle.places.specs.ArrayLaws.{keys_of-length, keys_of-place}
+use Rattle.places.proofs.ArrayLaws.{keys_of-length, keys_of-place}
 use Rattle.insertion.specs.Inserted.{LightestWord}
 
 module _ (places : List ℕ) (count : ℕ) where

@@ -4,8 +4,8 @@ use Rattle.std.proofs.Common.{◌∙◌, ap, append_assoc, append-nil, add-zero,
 use Rattle.std.proofs.lemmas.List.{map-append, length-map}
 use Rattle.std.proofs.Math.Seq.{drop-length, take-length}
 use Rattle.lists.specs.UpTo.{up_to}
-use Rattle.lists.specs.UpToLaws.{up_to-length, up_to-at, up_to-more}
-use Rattle.lists.specs.WrittenLaws.{written-front}
+use Rattle.lists.proofs.UpToLaws.{up_to-length, up_to-at, up_to-more}
+use Rattle.lists.proofs.WrittenLaws.{written-front}
 use Rattle.filling.specs.Filling.{Key}
 use Rattle.filling.specs.Separate.{key_place}
 use Rattle.graph.specs.Label.{merged, label, labels_of}

@@ -7,9 +7,9 @@ use native.Mathlib.Omega.{arith}
 use lib.ListN.{length, take, drop, length-take, length-drop}
 use lib.Seq.{take_at, drop_at, take-add, take-take, drop-drop, length-take-le}
 use Rattle.text.specs.Field.{field}
-use Rattle.text.specs.FieldLaws.{field-other-length}
+use Rattle.text.proofs.FieldLaws.{field-other-length}
 use Rattle.text.specs.Line.{line_length, ended, both_fields, pair_of, tag_of}
-use Rattle.text.specs.LineLaws.{ended-short}
+use Rattle.text.proofs.LineLaws.{ended-short}
 
 -- A line that the text cuts off is malformed.
 cut_off : (columns : ℕ) (bytes : List ℕ) (at : ℕ) → length bytes < at + suc columns

@@ -7,11 +7,11 @@ use Prim.Native.Nat.{ℕ, ◌+◌, ◌-◌, ◌≤◌, ◌<◌}
 use native.Mathlib.Omega.{arith}
 use lib.ListN.{length, set}
 use Rattle.lists.specs.First.{first}
-use Rattle.lists.specs.FirstLaws.{first_out}
-use Rattle.lists.specs.SearchLaws.{Searched, searched-start, searched-turn, searched-found}
+use Rattle.lists.proofs.FirstLaws.{first_out}
+use Rattle.lists.proofs.SearchLaws.{Searched, searched-start, searched-turn, searched-found}
 use Rattle.text.specs.Line.{line_at}
 use Rattle.text.specs.TagLines.{tag_in, no_tag_from, tags_stored}
-use Rattle.text.specs.TagLinesLaws.{line_before, line-tag, line-no-tag, stored-none, stored_more, stored-full}
+use Rattle.text.proofs.TagLinesLaws.{line_before, line-tag, line-no-tag, stored-none, stored_more, stored-full}
 
 -- The lines before line k are tags', as far as they are looked at, and the tags are stored.
 pub record Examined (bytes : List ℕ) (from end : ℕ) (before cells : List ℕ) (k : ℕ) : Type 0 where

@@ -6,7 +6,7 @@ use native.Mathlib.Omega.{arith}
 use native.Mathlib.Numerals.{add-one}
 use lib.ListN.{length, get_or, set, take, drop, length-set}
 use lib.Seq.{take-suc, length-take-le}
-use Rattle.lists.specs.WrittenLaws.{written-front}
+use Rattle.lists.proofs.WrittenLaws.{written-front}
 
 -- The first i cells are copied, and the others are as they were.
 pub record Copied (tags : List ℕ) (count : ℕ) (before cells : List ℕ) (i : ℕ) : Type 0 where

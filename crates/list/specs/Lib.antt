@@ -1,5 +1,3 @@
 pub mod Reading
 pub mod Answer
-pub mod ReadingLaws
 pub mod Text
-pub mod TextLaws

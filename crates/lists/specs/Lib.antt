@@ -1,10 +1,4 @@
 pub mod UpTo
-pub mod UpToLaws
 pub mod Occurs
-pub mod OccursLaws
-pub mod BoolLaws
 pub mod First
-pub mod FirstLaws
-pub mod SearchLaws
 pub mod Written
-pub mod WrittenLaws

@@ -1,7 +1,7 @@
 -- Lookup as it is defined meets Condition 2. Assumes nothing.
 use Rattle.std.specs.Prelude.{List, ℕ}
 use Rattle.image.specs.Lookup.{lookup_of}
-use Rattle.image.specs.CheckedLookupLaws.{checked-lookup}
+use Rattle.image.proofs.CheckedLookupLaws.{checked-lookup}
 use Rattle.lookup.specs.Condition2.{Condition2}
 
 -- Lookup as defined meets it.

@@ -10,13 +10,13 @@ use Rattle.refusal.specs.Limits.{unwired}
 use Rattle.refusal.specs.Outcome.{Outcome, answered, refused}
 use Rattle.lists.specs.First.{met_at, is_some}
 use Rattle.refusal.specs.Checks.{in_order}
-use Rattle.refusal.specs.ChecksLaws.{in_order-append}
+use Rattle.refusal.proofs.ChecksLaws.{in_order-append}
 use Rattle.hash.specs.Formula.{group_of, place_of}
 use Rattle.text.specs.Line.{line_at, group_line, slot_line}
 use Rattle.image.specs.View.{view_of, count_in, groups_in, slot_line_in, slot_in, faulty, candidate_in}
 use Rattle.image.specs.Checking.{opening_checks}
 use Rattle.image.specs.Lookup.{Found, number, unknown, lookup_checks, at_slot, lookup_in_group, lookup_of}
-use Rattle.image.specs.UnwiredLaws.{by-wired, lookup-unwired, lookup-wired}
+use Rattle.image.proofs.UnwiredLaws.{by-wired, lookup-unwired, lookup-wired}
 use Rattle.opening.specs.Opening.{opening_of, Opens}
 use Rattle.opening.specs.OpeningLaws.{opening-refused, opening-passes, opening-answered}
 use Rattle.lookup.specs.Steps.{end_of, slots_of, slots_from, group_outcome}

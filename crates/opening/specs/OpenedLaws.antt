@@ -5,9 +5,9 @@ use Rattle.std.proofs.Math.Option.{none, some}
 use borrow.Author.Tests.{le-ltb, lt-ltb, eq-eqb, ne_eqb, eqb-true, not-false}
 use Rattle.refusal.specs.Outcome.{Outcome, answered, refused}
 use Rattle.lists.specs.First.{met_at, is_some}
-use Rattle.lists.specs.FirstLaws.{some-of-is_some}
+use Rattle.lists.proofs.FirstLaws.{some-of-is_some}
 use Rattle.refusal.specs.Checks.{met, in_order}
-use Rattle.refusal.specs.ChecksLaws.{in_order-pass, in_order-answered, in_order-refused, refused-in_order, false-of-met}
+use Rattle.refusal.proofs.ChecksLaws.{in_order-pass, in_order-answered, in_order-refused, refused-in_order, false-of-met}
 use Rattle.text.specs.Line.{line_length}
 use Rattle.image.specs.View.{View, count_in, groups_in}
 use Rattle.image.specs.Checking.{opening_for}

@@ -6,7 +6,7 @@ use Rattle.std.proofs.Math.Option.{none, some}
 use Rattle.refusal.specs.Outcome.{Outcome, answered, refused}
 use Rattle.refusal.specs.Checks.{in_order}
 use Rattle.text.specs.Line.{line_length, line_at, image_header}
-use Rattle.text.specs.LineLaws.{image-header-only}
+use Rattle.text.proofs.LineLaws.{image-header-only}
 use Rattle.image.specs.Sheet.{image_length}
 use Rattle.image.specs.View.{view_of, count_in, groups_in}
 use Rattle.image.specs.Checking.{opening_checks}

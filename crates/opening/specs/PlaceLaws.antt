@@ -4,19 +4,19 @@ use Rattle.std.proofs.Common.{arith, ltb-false}
 use Rattle.std.proofs.lemmas.Bool.{eqb-false}
 use Rattle.refusal.specs.Limits.{tags_max, groups_max, unwired}
 use Rattle.refusal.specs.Outcome.{Outcome, answered}
-use Rattle.lists.specs.BoolLaws.{neither-of-or}
+use Rattle.lists.proofs.BoolLaws.{neither-of-or}
 use Rattle.lists.specs.First.{met_at, is_some}
 use Rattle.refusal.specs.Checks.{in_order}
-use Rattle.refusal.specs.ChecksLaws.{◌then◌, passed, in_order-pass, in_order-append, false-of-met_at}
+use Rattle.refusal.proofs.ChecksLaws.{◌then◌, passed, in_order-pass, in_order-append, false-of-met_at}
 use Rattle.hash.specs.Formula.{group_of}
-use Rattle.hash.specs.FormulaLaws.{group-below, place-below}
+use Rattle.hash.proofs.FormulaLaws.{group-below, place-below}
 use Rattle.image.specs.View.{View, view_of, count_in, groups_in, start_in, end_in, seed_in, slot_line_in, slot_in, faulty, candidate_in}
 use Rattle.image.specs.Checking.{opening_checks, malformed_in, holds_unwired, misplaced, repeated, number_checks, checking_checks, checking_of}
-use Rattle.image.specs.FaultLaws.{fair-of-faulty}
+use Rattle.image.proofs.FaultLaws.{fair-of-faulty}
 use Rattle.image.specs.Lookup.{Found, number, unknown, group_checks, lookup_checks, at_slot, lookup_in_group, lookup_of}
 use Rattle.opening.specs.Opening.{opening_of, Opens}
 use Rattle.opening.specs.OpeningLaws.{opening-answered}
-use Rattle.refusal.specs.PlaceLaws.{PlaceBelow, below-checks, below-cond, met_at-below, met-below, first_below}
+use Rattle.refusal.proofs.PlaceLaws.{PlaceBelow, below-checks, below-cond, met_at-below, met-below, first_below}
 
 -- An image has at most 1 + 512 + 4,096 lines.
 abbrev pub image_lines : ℕ

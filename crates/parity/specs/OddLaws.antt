@@ -3,10 +3,10 @@ use Rattle.std.specs.Prelude.{ℕ, suc, ◌+◌, ◌%◌, ◌<◌, ◌≡◌, re
 use Rattle.std.proofs.Common.{sym, ◌∙◌, inl, inr, true≢false, arith, eqb-true}
 use Rattle.std.proofs.Math.Bool.{not-eq-not}
 use Rattle.lists.specs.Occurs.{occurs, distinct}
-use Rattle.lists.specs.OccursLaws.{occurs-here, occurs-there, occurs-cases, occurs-get_or, get_or-distinct, distinct_head, distinct_tail}
-use Rattle.lists.specs.OccursLaws.{distinct_cons, pigeonhole, onto}
+use Rattle.lists.proofs.OccursLaws.{occurs-here, occurs-there, occurs-cases, occurs-get_or, get_or-distinct, distinct_head, distinct_tail}
+use Rattle.lists.proofs.OccursLaws.{distinct_cons, pigeonhole, onto}
 use Rattle.lists.specs.UpTo.{up_to}
-use Rattle.lists.specs.UpToLaws.{up_to-length, up_to-at}
+use Rattle.lists.proofs.UpToLaws.{up_to-length, up_to-at}
 use Rattle.parity.specs.Times.{times_in}
 
 -- A number that does not occur stands there 0 times.

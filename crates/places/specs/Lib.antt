@@ -1,2 +1,1 @@
 pub mod Array
-pub mod ArrayLaws

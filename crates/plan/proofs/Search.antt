@@ -8,10 +8,10 @@ use native.Mathlib.Omega.{arith}
 use lib.ListN.{length, get_or, set, take, drop}
 use Rattle.refusal.specs.Outcome.{answered, refused}
 use Rattle.lists.specs.First.{first, is_some}
-use Rattle.lists.specs.SearchLaws.{Searched, searched-start, searched-turn, searched-found, searched-done}
+use Rattle.lists.proofs.SearchLaws.{Searched, searched-start, searched-turn, searched-found, searched-done}
 use Rattle.lists.specs.UpTo.{up_to}
 use Rattle.numbering.specs.Parts.{part_start, part_of}
-use Rattle.numbering.specs.PartsLaws.{part-is}
+use Rattle.numbering.proofs.PartsLaws.{part-is}
 use Rattle.plan.specs.Seeds.{unseeded, part_seed, seeds_found, Plannable}
 use Rattle.plan.specs.SeedsLaws.{seed_placed, placed-seed, refused-seedless, found-more}
 

@@ -5,19 +5,19 @@ use Rattle.std.proofs.Math.Option.{Option, none, some}
 use Rattle.std.proofs.lemmas.List.{set_at}
 use Rattle.std.proofs.Math.Seq.{append_snoc}
 use Rattle.refusal.specs.Limits.{group_max, limit_max}
-use Rattle.refusal.specs.LimitsLaws.{outside-not}
+use Rattle.refusal.proofs.LimitsLaws.{outside-not}
 use Rattle.refusal.specs.Outcome.{Outcome, answered, refused, answered_by}
-use Rattle.refusal.specs.OutcomeLaws.{answered-of-by, refused-of-by}
+use Rattle.refusal.proofs.OutcomeLaws.{answered-of-by, refused-of-by}
 use Rattle.group.specs.Group.{least_seed}
-use Rattle.refusal.specs.ChecksLaws.{◌then◌, met-false}
+use Rattle.refusal.proofs.ChecksLaws.{◌then◌, met-false}
 use Rattle.group.specs.Placing.{Placement, placing_checks, placing_of}
 use Rattle.group.specs.Ascending.{Ascending}
-use Rattle.group.specs.AscendingLaws.{check-of-ascending}
+use Rattle.group.proofs.AscendingLaws.{check-of-ascending}
 use Rattle.group.specs.Unwired.{FirstWired}
-use Rattle.group.specs.UnwiredLaws.{check-of-wired}
+use Rattle.group.proofs.UnwiredLaws.{check-of-wired}
 use Rattle.lists.specs.UpTo.{up_to}
-use Rattle.lists.specs.UpToLaws.{up_to-length, up_to-more}
-use Rattle.placing.specs.PlacingLaws.{Placeable, placing-seeded, placing-says}
+use Rattle.lists.proofs.UpToLaws.{up_to-length, up_to-more}
+use Rattle.placing.proofs.PlacingLaws.{Placeable, placing-seeded, placing-says}
 use Rattle.plan.specs.Seeds.{part_seed, seeds_found}
 
 -- What placing answers of the seed.

@@ -1,7 +1,7 @@
 -- A list whose arguments are checked, and its tags ordered by group, as planning hands them on. Assumes nothing.
 use Rattle.std.specs.Prelude.{List, ℕ}
 use Rattle.refusal.specs.Checks.{Pass}
-use Rattle.refusal.specs.ChecksLaws.{checks_before}
+use Rattle.refusal.specs.ChecksBefore.{checks_before}
 use Rattle.numbering.specs.Planning.{earlier_checks}
 use Rattle.order.specs.Sorted.{Sorted}
 

@@ -5,15 +5,16 @@ use Rattle.std.proofs.Common.{◌∙◌, arith}
 use Rattle.std.proofs.Math.Option.{none}
 use borrow.Author.Tests.{ltb-false}
 use Rattle.refusal.specs.Limits.{tags_max, groups_max, unwired}
-use Rattle.refusal.specs.LimitsLaws.{inside}
+use Rattle.refusal.proofs.LimitsLaws.{inside}
 use Rattle.refusal.specs.Checks.{Pass}
-use Rattle.refusal.specs.ChecksLaws.{false-of-met, passed, checks_before, passed_on}
+use Rattle.refusal.specs.ChecksBefore.{checks_before}
+use Rattle.refusal.proofs.ChecksLaws.{false-of-met, passed, passed_on}
 use Rattle.lists.specs.First.{first}
-use Rattle.lists.specs.FirstLaws.{first_cong}
-use Rattle.lists.specs.UpToLaws.{up_to-agree}
-use Rattle.group.specs.UnwiredLaws.{wired-absent, absent-wired}
+use Rattle.lists.proofs.FirstLaws.{first_cong}
+use Rattle.lists.proofs.UpToLaws.{up_to-agree}
+use Rattle.group.proofs.UnwiredLaws.{wired-absent, absent-wired}
 use Rattle.numbering.specs.Members.{members}
-use Rattle.numbering.specs.MembersLaws.{members-ascending, members-absent}
+use Rattle.numbering.proofs.MembersLaws.{members-ascending, members-absent}
 use Rattle.numbering.specs.Plan.{plan_of}
 use Rattle.numbering.specs.Planning.{too_large, seedless, earlier_checks, seed_taken}
 use Rattle.condition3.specs.Condition3.{EarlierChecks}

@@ -4,7 +4,7 @@ use Rattle.std.proofs.Common.{sym, ◌∙◌}
 use Rattle.refusal.specs.Outcome.{Outcome, refused}
 use Rattle.numbering.specs.Plan.{no_plan}
 use Rattle.numbering.specs.Planning.{planning_of, plan_after}
-use Rattle.numbering.specs.PlanningLaws.{plan-refused}
+use Rattle.numbering.proofs.PlanningLaws.{plan-refused}
 use Rattle.condition3.specs.Condition3.{PlanningCondition3}
 use Rattle.condition3_theorem.specs.Condition3Theorem.{planning-condition3}
 

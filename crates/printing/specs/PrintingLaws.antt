@@ -6,15 +6,15 @@ use Rattle.std.proofs.Common.{◌∙◌, arith, lt-ltb, le-ltb}
 use Rattle.std.proofs.Math.ListN.{length}
 use Rattle.refusal.specs.Outcome.{Outcome, answered, refused, answered_by, followed_by, on_answer}
 use Rattle.lists.specs.Written.{written_at}
-use Rattle.lists.specs.WrittenLaws.{written-first}
+use Rattle.lists.proofs.WrittenLaws.{written-first}
 use Rattle.text.specs.Line.{line_length, pair_line}
-use Rattle.text.specs.LineLaws.{pair_line-length}
+use Rattle.text.proofs.LineLaws.{pair_line-length}
 use Rattle.list.specs.Reading.{Listed}
 use Rattle.image.specs.Sheet.{longest_image}
 use Rattle.numbering.specs.Planning.{seed_taken}
-use Rattle.numbering.specs.WritingLaws.{image-length}
+use Rattle.numbering.proofs.WritingLaws.{image-length}
 use Rattle.numbering.specs.Building.{building_of, buffer_after}
-use Rattle.numbering.specs.BuildingLaws.{building-roomy, buffer-kept, buffer-written, answered-size}
+use Rattle.numbering.proofs.BuildingLaws.{building-roomy, buffer-kept, buffer-written, answered-size}
 use Rattle.numbering.specs.FromText.{list_from_text, building_from_text, buffer_from_text}
 use Rattle.printing.specs.Printing.{image_of_list, output_of, printed, printed_count, printed_into}
 

@@ -2,14 +2,14 @@
 use Rattle.std.specs.Prelude.{◌≡◌, refl, true, List, ℕ}
 use Rattle.refusal.specs.Limits.{unwired}
 use Rattle.refusal.specs.Outcome.{Outcome, answered, refused, answered_by}
-use Rattle.refusal.specs.OutcomeLaws.{followed-answered}
+use Rattle.refusal.proofs.OutcomeLaws.{followed-answered}
 use Rattle.lists.specs.Occurs.{occurs}
-use Rattle.lists.specs.OccursLaws.{occurs-not}
+use Rattle.lists.proofs.OccursLaws.{occurs-not}
 use Rattle.text.specs.Line.{pair_line}
 use Rattle.list.specs.Reading.{Listed}
 use Rattle.image.specs.Sheet.{longest_image}
 use Rattle.numbering.specs.Building.{building_of}
-use Rattle.numbering.specs.UnwiredLaws.{building-wired}
+use Rattle.numbering.proofs.UnwiredLaws.{building-wired}
 use Rattle.numbering.specs.FromText.{list_from_text}
 use Rattle.printing.specs.Printing.{image_of_list, output_of, printed}
 

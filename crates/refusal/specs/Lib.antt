@@ -1,9 +1,6 @@
 pub mod Limits
-pub mod LimitsLaws
 pub mod Outcome
-pub mod OutcomeLaws
 pub mod Checks
-pub mod ChecksLaws
-pub mod PlaceLaws
 pub mod Reason
 pub mod Answer
+pub mod ChecksBefore

@@ -17,12 +17,12 @@ use borrow.Author.Count.{below_more}
 use Rattle.refusal.specs.Limits.{group_max}
 use Rattle.filling.specs.Filling.{Key, place_by, Fills}
 use Rattle.filling.specs.Separate.{key_place}
-use Rattle.filling.specs.WordLaws.{other-number}
+use Rattle.filling.proofs.WordLaws.{other-number}
 use Rattle.filling.specs.Eviction.{State, place_under, goal, occupant, start, seat_key, evict_key, Reached, started, seats, evicts, sequence_of}
-use Rattle.filling.specs.EvictionLaws.{Has, replicate-zero, reached-choice, reached-among, reached-who, reached-cells, reached-goal}
-use Rattle.filling.specs.EvictionLaws.{gives-up-none, seated-fills}
+use Rattle.filling.proofs.EvictionLaws.{Has, replicate-zero, reached-choice, reached-among, reached-who, reached-cells, reached-goal}
+use Rattle.filling.proofs.EvictionLaws.{gives-up-none, seated-fills}
 use Rattle.group.specs.Group.{group_under, least_seed}
-use Rattle.group.specs.GroupLaws.{NoneFills, group-size, group-below, least_seed-only, least_seed-out}
+use Rattle.group.proofs.GroupLaws.{NoneFills, group-size, group-below, least_seed-only, least_seed-out}
 use Rattle.places.specs.Array.{entry_of, laid_into}
 use Rattle.candidates.specs.LaidLaws.{group-cells, group-place}
 use Rattle.seeds.specs.Occupancy.{occupancy_of}

@@ -7,7 +7,7 @@ use native.Mathlib.Omega.{arith}
 use Rattle.refusal.specs.Limits.{tags_max}
 use Rattle.image.specs.View.{View, count_in, groups_in, start_in, seed_in, end_in, slot_line_in, slot_in}
 use Rattle.image.specs.Fair.{AllFair}
-use Rattle.image.specs.FaultLaws.{end-next, end-last, end-most}
+use Rattle.image.proofs.FaultLaws.{end-next, end-last, end-most}
 use Rattle.slots.specs.Cells.{cells_view, Regular}
 
 module _ (starts seeds tags : List ℕ) (groups : ℕ) where

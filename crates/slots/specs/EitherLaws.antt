@@ -3,7 +3,7 @@ use Rattle.std.specs.Prelude.{◌≡◌, refl, ◌⊎◌, ℕ, zero, suc, ◌*�
 use Rattle.std.proofs.Common.{sym, inl, inr, suc-mul, zero-mul, mul-zero, arith}
 use Rattle.std.specs.Int.Bits.{bit_xor, xor_add_and, xor_self}
 use Rattle.std.proofs.lemmas.Nat.{xor_lt, and_le_l, and_le_r}
-use Rattle.hash.specs.FormulaLaws.{product-fits}
+use Rattle.hash.proofs.FormulaLaws.{product-fits}
 
 -- No bit differs only where the numbers are equal: the bits that they have in common are then all bits of both.
 same-of-xor : (a b : ℕ) → bit_xor a b ≡ 0 → a ≡ b

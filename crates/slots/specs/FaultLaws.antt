@@ -5,7 +5,7 @@ use Rattle.std.proofs.Common.{◌∙◌, ap, add-one}
 use Rattle.std.proofs.Math.Bool.{true, false}
 use Rattle.std.proofs.Math.Option.{Option, none, some, or_else}
 use Rattle.lists.specs.First.{first, met_at}
-use Rattle.lists.specs.FirstLaws.{first-none, first_found}
+use Rattle.lists.proofs.FirstLaws.{first-none, first_found}
 use Rattle.image.specs.View.{View}
 use Rattle.image.specs.Checking.{misplaced, repeated}
 use Rattle.slots.specs.declared.SlotFault.{SlotFault}

@@ -1,2 +1,4 @@
 pub mod Inserting
 pub mod Sorting
+pub mod RisingLaws
+pub mod SortedLaws

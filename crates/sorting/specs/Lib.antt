@@ -1,4 +1,2 @@
 pub mod Sorted
 pub mod Rising
-pub mod RisingLaws
-pub mod SortedLaws

@@ -1,10 +1,4 @@
 pub mod Same
-pub mod SameLaws
 pub mod AsBuilt
-pub mod AsBuiltLaws
 pub mod StrictCheck
-pub mod HeldLaws
-pub mod RebuiltLaws
-pub mod LinesLaws
-pub mod WrittenGroupsLaws
-pub mod StrictTheorem
+pub mod Servable

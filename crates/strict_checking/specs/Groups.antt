@@ -2,7 +2,7 @@
 use Rattle.std.specs.Prelude.{ℕ, ◌+◌, ◌-◌, ◌≤◌, ◌<◌, Bool, List, length, get_or, take, drop}
 use Rattle.refusal.specs.Limits.{tags_max, groups_max}
 use Rattle.strict.specs.AsBuilt.{differs}
-use Rattle.strict.specs.HeldLaws.{Servable}
+use Rattle.strict.specs.Servable.{Servable}
 
 -- The slots of group g: from its start to the next one, which for the last group is N.
 abbrev pub slots_at : List ℕ → List ℕ → ℕ → List ℕ

@@ -6,19 +6,19 @@ use Rattle.std.proofs.Math.Option.{none, some}
 use Rattle.refusal.specs.Outcome.{Outcome, answered, refused}
 use Rattle.refusal.specs.Checks.{in_order}
 use Rattle.lists.specs.First.{first}
-use Rattle.lists.specs.FirstLaws.{first_cong}
+use Rattle.lists.proofs.FirstLaws.{first_cong}
 use Rattle.image.specs.View.{View, view_of, groups_in, start_in, seed_in, end_in}
 use Rattle.image.specs.Checking.{checking_of}
-use Rattle.image.specs.SameNumbersLaws.{same_end}
+use Rattle.image.proofs.SameNumbersLaws.{same_end}
 use Rattle.slots.specs.Cells.{cells_view}
 use Rattle.slots.specs.CellsLaws.{cells_count, cells-groups, cells-start, cells-seed, cells-slot, cells-end}
 use Rattle.checking.specs.Steps.{Stated}
 use Rattle.strict.specs.AsBuilt.{slots_in, not_as_built}
 use Rattle.strict.specs.StrictCheck.{strict_check_of}
 use Rattle.strict_condition.specs.Condition.{StrictCondition}
-use Rattle.strict.specs.HeldLaws.{all_fair, servable, slots-size, slots_at_lem, slot-below}
-use Rattle.strict.specs.StrictTheorem.{nineteen-decides, strict-condition}
-use Rattle.image.specs.FaultLaws.{end-most}
+use Rattle.strict.proofs.HeldLaws.{all_fair, servable, slots-size, slots_at_lem, slot-below}
+use Rattle.strict.proofs.StrictTheorem.{nineteen-decides, strict-condition}
+use Rattle.image.proofs.FaultLaws.{end-most}
 use Rattle.strict_checking.specs.Groups.{slots_at, differs_at, AllServable}
 
 module _ (image : List ℕ) {groups : ℕ} {starts seeds tags : List ℕ} (accepted : checking_of image ≡ answered 0)

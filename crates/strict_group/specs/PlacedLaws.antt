@@ -6,25 +6,26 @@ use Rattle.std.proofs.Math.Path.{ap}
 use Rattle.std.proofs.Math.Bool.{or-false}
 use Rattle.std.proofs.Math.Option.{get_or}
 use Rattle.refusal.specs.Limits.{group_max, limit_max, unwired}
-use Rattle.refusal.specs.LimitsLaws.{outside-not}
+use Rattle.refusal.proofs.LimitsLaws.{outside-not}
 use Rattle.refusal.specs.Outcome.{Outcome, answered, refused, on_answer}
-use Rattle.refusal.specs.ChecksLaws.{◌then◌, met-false, in_order-pass}
-use Rattle.lists.specs.FirstLaws.{is_some-of-some}
-use Rattle.filling.specs.LeastLaws.{fills-feasible}
+use Rattle.refusal.proofs.ChecksLaws.{◌then◌, met-false, in_order-pass}
+use Rattle.lists.proofs.FirstLaws.{is_some-of-some}
+use Rattle.filling.proofs.LeastLaws.{fills-feasible}
 use Rattle.filling.specs.Word.{word_of}
 use Rattle.sorting.specs.Sorted.{sorted}
-use Rattle.sorting.specs.SortedLaws.{sorted-length, sorted-occurs, sorted-ascending}
-use Rattle.group.specs.AscendingLaws.{check-of-ascending, ascending-distinct}
+use Rattle.sorting.proofs.SortedLaws.{sorted-length, sorted-occurs, sorted-ascending}
+use Rattle.group.proofs.AscendingLaws.{check-of-ascending, ascending-distinct}
 use Rattle.group.specs.Group.{group_under, taken}
-use Rattle.group.specs.GroupLaws.{LeastSeed, least_seed-some, least_seed-empty}
-use Rattle.group.specs.UnwiredLaws.{absent-wired, check-of-wired}
+use Rattle.group.proofs.GroupLaws.{LeastSeed, least_seed-some, least_seed-empty}
+use Rattle.group.proofs.UnwiredLaws.{absent-wired, check-of-wired}
 use Rattle.group.specs.Placing.{Placement, placing_checks, placement_of, placing_of}
 use Rattle.lists.specs.UpTo.{up_to}
 use Rattle.numbering.specs.GroupSlots.{group_slots}
 use Rattle.arrange.specs.Arrange.{Arrangeable}
 use Rattle.strict.specs.Same.{same}
 use Rattle.strict.specs.AsBuilt.{seed_given, slots_given, differs}
-use Rattle.strict.specs.HeldLaws.{Servable, seed-found}
+use Rattle.strict.specs.Servable.{Servable}
+use Rattle.strict.proofs.HeldLaws.{seed-found}
 
 module _ {seed : ℕ} {slots : List ℕ} (a : Servable seed slots) where
   abbrev tags : List ℕ

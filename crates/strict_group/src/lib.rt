@@ -8,7 +8,7 @@ ghost use Rattle.numbering.specs.GroupSlots.{group_slots};
 ghost use Rattle.arrange.specs.Arrange.{Arrangeable};
 ghost use Rattle.strict.specs.Same.{same};
 ghost use Rattle.strict.specs.AsBuilt.{differs};
-ghost use Rattle.strict.specs.HeldLaws.{Servable};
+ghost use Rattle.strict.specs.Servable.{Servable};
 
 use placing::PlacingAnswer;
 use refusal::{LIMIT_MAX, MEMBER_CELLS};

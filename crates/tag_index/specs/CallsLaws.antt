@@ -3,27 +3,27 @@ use Rattle.std.specs.Prelude.{◌≡◌, refl, not, List, [], ◌∷◌, ℕ, �
 use Rattle.std.proofs.Common.{arith}
 use Rattle.refusal.specs.Limits.{tag_end, unwired}
 use Rattle.refusal.specs.Outcome.{Outcome, answered, refused, answered_by}
-use Rattle.refusal.specs.OutcomeLaws.{answered-of-followed}
+use Rattle.refusal.proofs.OutcomeLaws.{answered-of-followed}
 use Rattle.lists.specs.First.{met_at, is_some}
-use Rattle.refusal.specs.ChecksLaws.{in_order-answered}
-use Rattle.refusal.specs.PlaceLaws.{Numbered, numbered-checks, numbered-followed, numbered-cond}
+use Rattle.refusal.proofs.ChecksLaws.{in_order-answered}
+use Rattle.refusal.proofs.PlaceLaws.{Numbered, numbered-checks, numbered-followed, numbered-cond}
 use Rattle.hash.specs.Formula.{group_of}
 use Rattle.image.specs.View.{View, view_of, groups_in, start_in, end_in, slot_line_in, slot_in}
 use Rattle.image.specs.Checking.{opening_checks, number_checks, checking_checks, checking_of}
 use Rattle.image.specs.Lookup.{Found, number, unknown, group_checks, lookup_checks, at_slot, lookup_in_group, lookup_of}
-use Rattle.image.specs.SheetLaws.{longest-is}
-use Rattle.image.specs.CheckedLookupLaws.{count_most}
-use Rattle.image.specs.LookupLaws.{lookup-any}
+use Rattle.image.proofs.SheetLaws.{longest-is}
+use Rattle.image.proofs.CheckedLookupLaws.{count_most}
+use Rattle.image.proofs.LookupLaws.{lookup-any}
 use Rattle.numbering.specs.Planning.{earlier_checks, planning_checks, planning_of}
-use Rattle.numbering.specs.PlanningLaws.{planning-says, earlier-groups}
+use Rattle.numbering.proofs.PlanningLaws.{planning-says, earlier-groups}
 use Rattle.numbering.specs.Writing.{writing_checks, writing_of}
-use Rattle.numbering.specs.WritingLaws.{written-most}
+use Rattle.numbering.proofs.WritingLaws.{written-most}
 use Rattle.numbering.specs.Building.{building_of}
-use Rattle.numbering.specs.BuildingLaws.{answered-most}
+use Rattle.numbering.proofs.BuildingLaws.{answered-most}
 use Rattle.numbering.specs.FromText.{list_from_text, planning_from_text, writing_from_text, building_from_text}
 use Rattle.from_text.specs.PlaceLaws.{text_lines, plan-text-place, write-text-place, from-text-place, list-numbered}
 use Rattle.answer64.specs.Answer64.{found_number}
-use Rattle.answer64.specs.Answer64Laws.{Fits, fits-of, answers-apart, SlotFound, found-fits, found-apart}
+use Rattle.answer64.proofs.Answer64Laws.{Fits, fits-of, answers-apart, SlotFound, found-fits, found-apart}
 use Rattle.tag_index.specs.Calls.{plan_answer, write_answer, build_answer, check_answer, lookup_answer}
 use Rattle.opening.specs.PlaceLaws.{image_lines, checking-place, lookup-place}
 

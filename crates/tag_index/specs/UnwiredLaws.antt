@@ -4,19 +4,19 @@ use Rattle.std.specs.Prelude.{◌≡◌, refl, true, List, ℕ, ◌≤◌, ◌<�
 use Rattle.std.proofs.Common.{sym, ◌∙◌, arith}
 use Rattle.refusal.specs.Limits.{tag_end, unwired}
 use Rattle.refusal.specs.Outcome.{Outcome, answered, refused, answered_by}
-use Rattle.refusal.specs.OutcomeLaws.{followed-answered}
+use Rattle.refusal.proofs.OutcomeLaws.{followed-answered}
 use Rattle.lists.specs.Occurs.{occurs}
-use Rattle.lists.specs.OccursLaws.{occurs-not}
+use Rattle.lists.proofs.OccursLaws.{occurs-not}
 use Rattle.list.specs.Reading.{Listed}
 use Rattle.image.specs.Checking.{checking_of}
 use Rattle.image.specs.Holds.{SlotHolds}
 use Rattle.image.specs.Lookup.{Found, number, unknown, lookup_of}
-use Rattle.image.specs.CheckedLookupLaws.{checked-wired}
-use Rattle.image.specs.UnwiredLaws.{unwired-unanswered}
+use Rattle.image.proofs.CheckedLookupLaws.{checked-wired}
+use Rattle.image.proofs.UnwiredLaws.{unwired-unanswered}
 use Rattle.numbering.specs.FromText.{list_from_text, planning_from_text, writing_from_text, building_from_text}
-use Rattle.numbering.specs.UnwiredLaws.{planning-wired, writing-wired, from-text-wired}
+use Rattle.numbering.proofs.UnwiredLaws.{planning-wired, writing-wired, from-text-wired}
 use Rattle.answer64.specs.Answer64.{answer64, found_number}
-use Rattle.answer64.specs.Answer64Laws.{Fits}
+use Rattle.answer64.proofs.Answer64Laws.{Fits}
 use Rattle.tag_index.specs.Calls.{plan_answer, write_answer, build_answer, check_answer, lookup_answer}
 use Rattle.tag_index.specs.CallsLaws.{plan-fits, write-fits, build-fits, check-fits, lookup-fits}
 

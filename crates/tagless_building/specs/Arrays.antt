@@ -2,7 +2,7 @@
 use Rattle.std.specs.Prelude.{List, ℕ, ◌≤◌, length}
 use Rattle.refusal.specs.Limits.{tags_max}
 use Rattle.refusal.specs.Checks.{Pass}
-use Rattle.refusal.specs.ChecksLaws.{checks_before}
+use Rattle.refusal.specs.ChecksBefore.{checks_before}
 use Rattle.order.specs.Sorted.{Sorted}
 use Rattle.tagless.specs.Building.{tagless_building_checks}
 

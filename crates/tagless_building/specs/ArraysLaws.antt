@@ -6,20 +6,21 @@ use Rattle.std.proofs.Math.Option.{none}
 use Rattle.std.proofs.Math.ListN.{get_or-append}
 use borrow.Author.Tests.{ltb-false}
 use Rattle.refusal.specs.Limits.{tags_max, groups_max}
-use Rattle.refusal.specs.LimitsLaws.{inside}
+use Rattle.refusal.proofs.LimitsLaws.{inside}
 use Rattle.refusal.specs.Outcome.{answered}
 use Rattle.refusal.specs.Checks.{Check, Pass}
-use Rattle.refusal.specs.ChecksLaws.{false-of-met, passed, checks_before, passed_on}
+use Rattle.refusal.specs.ChecksBefore.{checks_before}
+use Rattle.refusal.proofs.ChecksLaws.{false-of-met, passed, passed_on}
 use Rattle.lists.specs.First.{first}
-use Rattle.lists.specs.FirstLaws.{first_cong}
+use Rattle.lists.proofs.FirstLaws.{first_cong}
 use Rattle.lists.specs.UpTo.{up_to}
-use Rattle.lists.specs.UpToLaws.{up_to-length, up_to-at}
+use Rattle.lists.proofs.UpToLaws.{up_to-length, up_to-at}
 use Rattle.numbering.specs.Planning.{too_large}
 use Rattle.tagless_image.specs.Sheet.{tagless_bytes, tagless_length}
-use Rattle.tagless_image.specs.SheetLaws.{bytes-agree}
+use Rattle.tagless_image.proofs.SheetLaws.{bytes-agree}
 use Rattle.tagless.specs.Building.{wordless, tagless_building_checks, tagless_building_of, tagless_seed, tagless_word, tagless_sheet_of}
 use Rattle.tagless.specs.Building.{tagless_image_of}
-use Rattle.tagless.specs.BuildingLaws.{image-length, building-answered}
+use Rattle.tagless.proofs.BuildingLaws.{image-length, building-answered}
 use Rattle.tagless_condition.specs.Condition.{TaglessEarlierChecks}
 use Rattle.tagless_theorem.specs.TaglessTheorem.{earlier-of-pass}
 use Rattle.tagless_plan.specs.Words.{unworded, part_seed, part_word, stored_up_to, Searchable}

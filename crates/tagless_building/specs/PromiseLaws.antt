@@ -3,7 +3,7 @@ use Rattle.std.specs.Prelude.{◌≡◌, List, ℕ, length}
 use Rattle.std.proofs.Common.{sym, ◌∙◌}
 use Rattle.refusal.specs.Outcome.{Outcome, refused}
 use Rattle.tagless.specs.Building.{tagless_building_of, tagless_after}
-use Rattle.tagless.specs.BuildingLaws.{after-refused}
+use Rattle.tagless.proofs.BuildingLaws.{after-refused}
 use Rattle.tagless_condition.specs.Condition.{TaglessCondition}
 use Rattle.tagless_theorem.specs.TaglessTheorem.{tagless-condition}
 

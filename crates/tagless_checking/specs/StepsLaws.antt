@@ -12,12 +12,12 @@ use borrow.Author.Tests.{lt-ltb, ltb-true, ltb-false}
 use Rattle.refusal.specs.Limits.{groups_max}
 use Rattle.refusal.specs.Outcome.{answered, refused}
 use Rattle.lists.specs.First.{first, is_some}
-use Rattle.lists.specs.FirstLaws.{first_out, first_cong}
+use Rattle.lists.proofs.FirstLaws.{first_out, first_cong}
 use Rattle.refusal.specs.Checks.{in_order}
-use Rattle.refusal.specs.ChecksLaws.{in_order-append}
+use Rattle.refusal.proofs.ChecksLaws.{in_order-append}
 use Rattle.image.specs.View.{View, groups_in, start_in, end_in, faulty}
 use Rattle.image.specs.Checking.{malformed_in}
-use Rattle.image.specs.FaultLaws.{end-next, end-last}
+use Rattle.image.proofs.FaultLaws.{end-next, end-last}
 use Rattle.checking.specs.Steps.{faulty_at}
 use Rattle.checking.specs.StepsLaws.{filled_none, filled-turn}
 use Rattle.tagless_image.specs.View.{tagless_view}

@@ -3,15 +3,16 @@
 use Rattle.std.specs.Prelude.{◌≡◌, List, ℕ, ◌≤◌, length}
 use Rattle.std.proofs.Common.{arith}
 use Rattle.refusal.specs.Limits.{groups_max}
-use Rattle.refusal.specs.LimitsLaws.{inside}
+use Rattle.refusal.proofs.LimitsLaws.{inside}
 use Rattle.refusal.specs.Outcome.{answered}
-use Rattle.refusal.specs.ChecksLaws.{◌then◌, false-of-met, passed, checks_before}
-use Rattle.refusal.specs.PlaceLaws.{PlaceBelow, below-checks, below-followed, met-below, first_below}
+use Rattle.refusal.specs.ChecksBefore.{checks_before}
+use Rattle.refusal.proofs.ChecksLaws.{◌then◌, false-of-met, passed}
+use Rattle.refusal.proofs.PlaceLaws.{PlaceBelow, below-checks, below-followed, met-below, first_below}
 use Rattle.numbering.specs.FromText.{list_from_text}
 use Rattle.from_text.specs.PlaceLaws.{text_lines, few, legal, list-place}
 use Rattle.tagless_image.specs.Sheet.{tagless_length}
 use Rattle.tagless.specs.Building.{tagless_building_checks, tagless_building_of}
-use Rattle.tagless.specs.BuildingLaws.{building-says}
+use Rattle.tagless.proofs.BuildingLaws.{building-says}
 use Rattle.tagless.specs.FromText.{tagless_from_text}
 
 building-place : (tags : List ℕ) (groups limit room : ℕ) → PlaceBelow text_lines (tagless_building_of tags groups limit room)

@@ -3,7 +3,7 @@ use Rattle.std.specs.Prelude.{◌≡◌, List, ℕ, length}
 use Rattle.std.proofs.Math.Path.{sym}
 use Rattle.std.proofs.Common.{◌∙◌}
 use Rattle.refusal.specs.Outcome.{Outcome, answered, refused}
-use Rattle.refusal.specs.OutcomeLaws.{followed-answered, followed-refused, left-answered, left-refused}
+use Rattle.refusal.proofs.OutcomeLaws.{followed-answered, followed-refused, left-answered, left-refused}
 use Rattle.list.specs.Reading.{Listed}
 use Rattle.numbering.specs.FromText.{list_from_text}
 use Rattle.from_text.specs.PromiseLaws.{of_none, of-listed}

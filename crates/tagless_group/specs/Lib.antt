@@ -1,4 +1,2 @@
 pub mod Row
 pub mod Words
-pub mod WordsLaws
-pub mod Worked

@@ -6,7 +6,7 @@ use Rattle.std.proofs.Math.Option.{none, some}
 use Rattle.refusal.specs.Outcome.{Outcome, answered, refused}
 use Rattle.refusal.specs.Checks.{in_order}
 use Rattle.text.specs.Line.{line_length, line_at, image_header}
-use Rattle.text.specs.LineLaws.{image-header-only}
+use Rattle.text.proofs.LineLaws.{image-header-only}
 use Rattle.word_line.specs.WordLine.{word_line_length}
 use Rattle.image.specs.View.{groups_in}
 use Rattle.opening.specs.OpenedLaws.{counts-in, refused-for, passes-for, opens-for, short-for, malformed-for, other-for, counts-for}

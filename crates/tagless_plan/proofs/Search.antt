@@ -9,10 +9,10 @@ use native.Mathlib.Omega.{arith}
 use lib.ListN.{length, get_or, set, take, drop}
 use Rattle.refusal.specs.Limits.{group_max}
 use Rattle.lists.specs.First.{first, is_some}
-use Rattle.lists.specs.SearchLaws.{Searched, searched-start, searched-turn, searched-found, searched-done}
+use Rattle.lists.proofs.SearchLaws.{Searched, searched-start, searched-turn, searched-found, searched-done}
 use Rattle.lists.specs.UpTo.{up_to}
 use Rattle.numbering.specs.Parts.{part_start, part_of}
-use Rattle.numbering.specs.PartsLaws.{part-is}
+use Rattle.numbering.proofs.PartsLaws.{part-is}
 use Rattle.plan.specs.SeedsLaws.{stored_more}
 use Rattle.tagless_group.specs.Words.{worded_seed}
 use Rattle.tagless_plan.specs.Words.{unworded, part_seed, part_word, stored_up_to, Searchable}

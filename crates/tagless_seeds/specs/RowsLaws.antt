@@ -5,9 +5,9 @@ use Rattle.std.proofs.lemmas.Simd.{map-map}
 use Rattle.std.proofs.lemmas.List.{map-append}
 use Rattle.std.proofs.Math.ListN.{length-map}
 use Rattle.refusal.specs.Limits.{group_max, tag_end}
-use Rattle.hash.specs.FormulaLaws.{product-below}
-use Rattle.lists.specs.FirstLaws.{first_cong}
-use Rattle.lists.specs.WrittenLaws.{written-front}
+use Rattle.hash.proofs.FormulaLaws.{product-below}
+use Rattle.lists.proofs.FirstLaws.{first_cong}
+use Rattle.lists.proofs.WrittenLaws.{written-front}
 use Rattle.group.specs.Group.{group_under}
 use Rattle.places.specs.Array.{keys_of, laid_into}
 use Rattle.candidates.specs.LaidLaws.{group-cells, group-within, group-keys}

@@ -12,12 +12,12 @@ use Rattle.std.proofs.Math.ListN.{length}
 use borrow.Author.Tests.{eqb-false, eqb-true, ltb-true, ltb-false, le-ltb, eq-eqb}
 use Rattle.refusal.specs.Limits.{tag_end, tags_max, groups_max, group_max, seed_max, unwired}
 use Rattle.refusal.specs.Outcome.{answered}
-use Rattle.lists.specs.FirstLaws.{is_some-of-some}
+use Rattle.lists.proofs.FirstLaws.{is_some-of-some}
 use Rattle.lists.specs.Occurs.{occurs}
-use Rattle.lists.specs.OccursLaws.{occurs-cases}
-use Rattle.refusal.specs.ChecksLaws.{met-false, in_order-pass}
+use Rattle.lists.proofs.OccursLaws.{occurs-cases}
+use Rattle.refusal.proofs.ChecksLaws.{met-false, in_order-pass}
 use Rattle.hash.specs.Formula.{group_of, place_of}
-use Rattle.hash.specs.FormulaLaws.{group-below}
+use Rattle.hash.proofs.FormulaLaws.{group-below}
 use Rattle.filling.specs.Filling.{place_by}
 use Rattle.filling.specs.Word.{choice_number}
 use Rattle.group.specs.Group.{both_places}
@@ -27,17 +27,17 @@ use Rattle.image.specs.View.{View, count_in, groups_in, start_in, seed_in, end_i
 use Rattle.image.specs.Lookup.{number, unknown}
 use Rattle.image.specs.LinesRead.{own_group}
 use Rattle.image.specs.Fair.{AllFair}
-use Rattle.image.specs.FaultLaws.{faulty-of-fair}
+use Rattle.image.proofs.FaultLaws.{faulty-of-fair}
 use Rattle.numbering.specs.Members.{members, start_of}
-use Rattle.numbering.specs.MembersLaws.{members-own, start-zero, start-all, start-suc, start-before}
+use Rattle.numbering.proofs.MembersLaws.{members-own, start-zero, start-all, start-suc, start-before}
 use Rattle.numbering.specs.Number.{choice_of, place_in, number_of}
 use Rattle.tagless_group.specs.Words.{choice_by, choices_by}
 use Rattle.tagless_image.specs.Sheet.{TaglessSheet, tagless_bytes, tagless_length}
-use Rattle.tagless_image.specs.SheetLaws.{tagless-length, header-reads, group_reads}
+use Rattle.tagless_image.proofs.SheetLaws.{tagless-length, header-reads, group_reads}
 use Rattle.tagless_image.specs.View.{stated_at, tagless_view, word_in}
 use Rattle.tagless_image.specs.Checking.{tagless_opening, tagless_checks, tagless_checking_of}
 use Rattle.tagless_image.specs.Lookup.{number_by, tagless_lookup_of}
-use Rattle.tagless_image.specs.CheckedLaws.{Sound, pass-of-sound, sound-unwired, sound_empty, sound-number}
+use Rattle.tagless_image.proofs.CheckedLaws.{Sound, pass-of-sound, sound-unwired, sound_empty, sound-number}
 use Rattle.tagless.specs.Number.{tagless_number}
 use Rattle.tagless.specs.Building.{tagless_sheet_of}
 

@@ -7,35 +7,36 @@ use Rattle.std.proofs.Math.Bool.{false}
 use Rattle.std.proofs.Math.Option.{Option, none, some}
 use borrow.Author.Tests.{ltb-false, le-ltb}
 use Rattle.refusal.specs.Limits.{tags_max, groups_max, group_max, limit_max, unwired}
-use Rattle.refusal.specs.LimitsLaws.{outside-not, inside}
+use Rattle.refusal.proofs.LimitsLaws.{outside-not, inside}
 use Rattle.refusal.specs.Outcome.{answered, refused}
 use Rattle.lists.specs.First.{first}
-use Rattle.lists.specs.FirstLaws.{first_some, first-none, first_found, first_out}
+use Rattle.lists.proofs.FirstLaws.{first_some, first-none, first_found, first_out}
 use Rattle.lists.specs.Occurs.{occurs}
-use Rattle.lists.specs.OccursLaws.{occurs-not}
+use Rattle.lists.proofs.OccursLaws.{occurs-not}
 use Rattle.refusal.specs.Checks.{Check, Pass}
-use Rattle.refusal.specs.ChecksLaws.{◌then◌, met-false, false-of-met, passed, checks_before, pass-before, pass-append}
-use Rattle.group.specs.AscendingLaws.{ascending-of-check, check-of-ascending, ascending-distinct}
-use Rattle.group.specs.UnwiredLaws.{wired-of-check, check-of-wired, wired-absent}
+use Rattle.refusal.specs.ChecksBefore.{checks_before}
+use Rattle.refusal.proofs.ChecksLaws.{◌then◌, met-false, false-of-met, passed, pass-before, pass-append}
+use Rattle.group.proofs.AscendingLaws.{ascending-of-check, check-of-ascending, ascending-distinct}
+use Rattle.group.proofs.UnwiredLaws.{wired-of-check, check-of-wired, wired-absent}
 use Rattle.image.specs.Lookup.{number, unknown}
-use Rattle.image.specs.UnwiredLaws.{by-wired}
+use Rattle.image.proofs.UnwiredLaws.{by-wired}
 use Rattle.hash.specs.Formula.{group_of}
 use Rattle.numbering.specs.Members.{members}
-use Rattle.numbering.specs.MembersLaws.{members-own}
+use Rattle.numbering.proofs.MembersLaws.{members-own}
 use Rattle.numbering.specs.Number.{number_of}
-use Rattle.numbering.specs.NumberLaws.{AllFill, all_placed, number-below, number-apart, number-onto, some-listed}
+use Rattle.numbering.proofs.NumberLaws.{AllFill, all_placed, number-below, number-apart, number-onto, some-listed}
 use Rattle.numbering.specs.Planning.{too_large}
 use Rattle.condition3.specs.Condition3.{TagOf}
-use Rattle.tagless_group.specs.WordsLaws.{LeastWordSeed}
+use Rattle.tagless_group.proofs.WordsLaws.{LeastWordSeed}
 use Rattle.tagless_image.specs.Sheet.{tagless_length}
-use Rattle.tagless_image.specs.SheetLaws.{header_at, group_at_lem}
+use Rattle.tagless_image.proofs.SheetLaws.{header_at, group_at_lem}
 use Rattle.tagless_image.specs.Lookup.{tagless_lookup_of}
-use Rattle.tagless_image.specs.LookupLaws.{lookup-below}
+use Rattle.tagless_image.proofs.LookupLaws.{lookup-below}
 use Rattle.tagless.specs.Number.{tagless_number}
 use Rattle.tagless.specs.Building.{wordless, word_check, tagless_building_checks, tagless_building_of, tagless_seed, tagless_word, tagless_sheet_of}
 use Rattle.tagless.specs.Building.{tagless_image_of, tagless_after}
-use Rattle.tagless.specs.BuildingLaws.{image-length, taken-least, none-taken, building-refused, building-answered, building-says}
-use Rattle.tagless.specs.BuildingLaws.{building-seven, after-answered}
+use Rattle.tagless.proofs.BuildingLaws.{image-length, taken-least, none-taken, building-refused, building-answered, building-says}
+use Rattle.tagless.proofs.BuildingLaws.{building-seven, after-answered}
 use Rattle.tagless_condition.specs.Condition.{HasWord, LowestWithoutWord, TaglessEarlierChecks, TaglessAccepted, TaglessCondition}
 use Rattle.tagless_theorem.specs.BuiltLaws.{InRange, word_choices, number-by-choices, built-checked, built-unwired, built-empty}
 use Rattle.tagless_theorem.specs.BuiltLaws.{built-number, built-count}

@@ -6,15 +6,15 @@ use native.Mathlib.Omega.{arith}
 use native.Mathlib.Numerals.{add-one}
 use lib.ListN.{length, drop}
 use Rattle.lists.specs.UpTo.{up_to}
-use Rattle.lists.specs.UpToLaws.{up_to-length, flatten-more}
+use Rattle.lists.proofs.UpToLaws.{up_to-length, flatten-more}
 use Rattle.lists.specs.Written.{written_at}
-use Rattle.lists.specs.WrittenLaws.{written-nothing, written-first, written-length, written_next}
+use Rattle.lists.proofs.WrittenLaws.{written-nothing, written-first, written-length, written_next}
 use Rattle.text.specs.Line.{line_length}
-use Rattle.text.specs.LineLaws.{pair_line-length, up_to-lines, flatten-length}
+use Rattle.text.proofs.LineLaws.{pair_line-length, up_to-lines, flatten-length}
 use Rattle.word_line.specs.WordLine.{word_line_length}
-use Rattle.word_line.specs.WordLineLaws.{word_line-length}
+use Rattle.word_line.proofs.WordLineLaws.{word_line-length}
 use Rattle.tagless_image.specs.Sheet.{TaglessSheet, header_line_of, group_line_of, tagless_bytes, tagless_length}
-use Rattle.tagless_image.specs.SheetLaws.{tagless-length}
+use Rattle.tagless_image.proofs.SheetLaws.{tagless-length}
 
 -- The lines of the first k groups are written behind line 0, and the other bytes are as they were.
 pub record LinesWritten (s : TaglessSheet) (before bytes : List ℕ) (k : ℕ) : Type 0 where

@@ -10,20 +10,20 @@ use Rattle.std.proofs.Math.Seq.{get_or-set_other, ext_get_or}
 use borrow.Author.Tests.{eq-eqb, ne_eqb, ltb-true, ltb-false, lt-ltb, le-ltb}
 use Rattle.refusal.specs.Limits.{group_max}
 use Rattle.lists.specs.UpTo.{up_to}
-use Rattle.lists.specs.UpToLaws.{up_to-length, up_to-at, up_to-agree}
+use Rattle.lists.proofs.UpToLaws.{up_to-length, up_to-at, up_to-agree}
 use Rattle.lists.specs.First.{first, is_some}
-use Rattle.lists.specs.FirstLaws.{first_some, first-none, first_out, is_some-of-some, is_some-of-none}
+use Rattle.lists.proofs.FirstLaws.{first_some, first-none, first_out, is_some-of-some, is_some-of-none}
 use Rattle.filling.specs.Filling.{Key, place_by}
 use Rattle.filling.specs.Separate.{key_place}
 use Rattle.graph.specs.HowMany.{how_many}
-use Rattle.graph.specs.HowManyLaws.{points-same, points_none, points-some}
-use Rattle.graph.specs.HowManyLaws.{how_many-at, how_many-map, how_many-empty, how_many-most, how_many-passes, how_many-fails}
+use Rattle.graph.proofs.HowManyLaws.{points-same, points_none, points-some}
+use Rattle.graph.proofs.HowManyLaws.{how_many-at, how_many-map, how_many-empty, how_many-most, how_many-passes, how_many-fails}
 use Rattle.graph.specs.Parts.{points, part_points, part_edges, more_edges, lowest, parts_of}
 use Rattle.graph.specs.Label.{label}
-use Rattle.graph.specs.ConnectedLaws.{key-label}
-use Rattle.graph.specs.MergeLaws.{points_with, edges_with}
-use Rattle.graph.specs.NumberLaws.{label-again, label-below, root}
-use Rattle.graph.specs.PartLaws.{points-labelled, edges-labelled, served-labels, lowest-roots}
+use Rattle.graph.proofs.ConnectedLaws.{key-label}
+use Rattle.graph.proofs.MergeLaws.{points_with, edges_with}
+use Rattle.graph.proofs.NumberLaws.{label-again, label-below, root}
+use Rattle.graph.proofs.PartLaws.{points-labelled, edges-labelled, served-labels, lowest-roots}
 use Rattle.places.specs.Array.{keys_of}
 use Rattle.labels.specs.LabelsLaws.{labels_at}
 use Rattle.tally.specs.Tally.{labelled, both_labelled, by_label, LabelsBelow, positive, more, Graphed}

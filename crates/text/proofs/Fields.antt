@@ -2,7 +2,7 @@
 use Rattle.std.proofs.Common.{◌≡◌, ℕ, suc, ◌+◌, ◌-◌, ◌*◌, ◌%◌, ◌<◌, ◌≤◌, List, [], ◌∷◌, ◌++◌, length, get_or, take, drop, sym, refl, ◌∙◌, add-one, arith, length-take-le, take_all, take-suc, take-add}
 use mathlib.Core.Option.{none, some, none-ne-some}
 use native.Mathlib.Nat.{pow-le-pow_right}
-use Rattle.lists.specs.FirstLaws.{none-of-never}
+use Rattle.lists.proofs.FirstLaws.{none-of-never}
 use Rattle.columns.specs.Columns.{leading_from}
 use Rattle.columns.specs.ColumnsLaws.{leading_behind, leading-append}
 use Rattle.text.specs.Field.{field}

@@ -5,9 +5,9 @@ use lib.Seq.{append_snoc, get_or_at}
 use Rattle.columns.specs.Columns.{column_of, leading_from}
 use Rattle.columns.specs.ColumnsLaws.{leading_behind, leading-append, leading-first}
 use Rattle.text.specs.Figure.{leading, figure}
-use Rattle.text.specs.FigureLaws.{leading_length}
+use Rattle.text.proofs.FigureLaws.{leading_length}
 use Rattle.text.specs.Field.{field}
-use Rattle.text.specs.FieldLaws.{field-figure, field-only}
+use Rattle.text.proofs.FieldLaws.{field-figure, field-only}
 
 -- The lower half of a column's byte is its digit.
 column-low : (v d : ℕ) → d < 10 → column_of (v * 10 + d) d % 16 ≡ d

@@ -1,3 +1,9 @@
 pub mod Leading
 pub mod Lines
 pub mod Fields
+pub mod Examples
+pub mod FieldLaws
+pub mod FigureLaws
+pub mod LineLaws
+pub mod PartLaws
+pub mod TagLinesLaws

@@ -1,13 +1,13 @@
 -- A whole line by its bytes: what it reads as, and when it is malformed. Assumes nothing.
 use Rattle.std.proofs.Common.{◌≡◌, ℕ, ◌+◌, ◌*◌, ◌%◌, ◌<◌, ◌≤◌, true, List, [], ◌∷◌, length, get_or, take, drop, sym, refl, ◌∙◌, arith, length-take-le, take-suc, eq-eqb, eqb-true}
 use mathlib.Core.Option.{Option, none, some, none-ne-some}
-use Rattle.lists.specs.BoolLaws.{some-of-cond}
-use Rattle.lists.specs.FirstLaws.{none-of-never}
+use Rattle.lists.proofs.BoolLaws.{some-of-cond}
+use Rattle.lists.proofs.FirstLaws.{none-of-never}
 use Rattle.columns.specs.Columns.{leading_from, both}
 use Rattle.columns.specs.ColumnsLaws.{leading_behind, leading-append}
 use Rattle.text.specs.Field.{field}
 use Rattle.text.specs.Line.{line_length, ended, both_fields, pair_of, tag_of}
-use Rattle.text.specs.LineLaws.{ended-whole, both-only}
+use Rattle.text.proofs.LineLaws.{ended-whole, both-only}
 use Rattle.text.proofs.Leading.{leading-below, field-digit, Ends, field-ends, part_field}
 
 -- Both numbers are there, or not.

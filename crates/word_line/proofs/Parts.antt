@@ -13,7 +13,7 @@ use Rattle.refusal.specs.Limits.{tag_end, seed_max}
 use Rattle.text.specs.Field.{field}
 use Rattle.text.specs.Line.{line_length, both_fields, within, slot_line}
 use Rattle.word_line.specs.WordLine.{word_line_length, and_third, group_word_line}
-use Rattle.word_line.specs.WordLineLaws.{triple-parts, word-other-length}
+use Rattle.word_line.proofs.WordLineLaws.{triple-parts, word-other-length}
 
 -- A range of each part is a range of the whole.
 parts_within : (small fits : Bool) (a b c : ℕ)

@@ -1,4 +1,2 @@
 pub mod WordLine
-pub mod WordLineLaws
 pub mod Answer
-pub mod Examples

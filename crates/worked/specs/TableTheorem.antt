@@ -4,7 +4,7 @@ use Rattle.std.proofs.Common.{◌∙◌, subst, arith, le-ltb}
 use mathlib.Core.List.{List, [], flatten}
 use Rattle.std.proofs.Math.Option.{some, or_else}
 use Rattle.refusal.specs.Limits.{limit_max, groups_max, outside}
-use Rattle.refusal.specs.LimitsLaws.{outside-not}
+use Rattle.refusal.proofs.LimitsLaws.{outside-not}
 use Rattle.lists.specs.First.{first, met_at, is_some}
 use Rattle.refusal.specs.Outcome.{followed_by, on_answer}
 use Rattle.refusal.specs.Checks.{met, in_order}
@@ -19,7 +19,7 @@ use Rattle.filling.specs.Order.{ones}
 use Rattle.filling.specs.Taken.{fewer_ones, taken_from, sequence_taken}
 use Rattle.filling.specs.Word.{choice_number, word_of}
 use Rattle.group.specs.Group.{both_places, candidates, least_seed, taken}
-use Rattle.group.specs.GroupLaws.{least_seed-empty}
+use Rattle.group.proofs.GroupLaws.{least_seed-empty}
 use Rattle.group.specs.Ascending.{not_above}
 use Rattle.group.specs.Unwired.{starts_unwired}
 use Rattle.group.specs.Placing.{placing_checks, placement_of, placing_of}
@@ -31,7 +31,7 @@ use Rattle.numbering.specs.Plan.{plan_of, planned_groups, planned_seed}
 use Rattle.numbering.specs.Planning.{earlier_checks, planning_checks, planning_of, seed_taken, plan_after}
 use Rattle.numbering.specs.Writing.{sheet_of, choices_under, image_under, writing_checks, writing_of, planned_image, written, buffer_written}
 use Rattle.numbering.specs.Building.{building_of, buffer_after}
-use Rattle.numbering.specs.BuildingLaws.{building-in-order, buffer-after}
+use Rattle.numbering.proofs.BuildingLaws.{building-in-order, buffer-after}
 use Rattle.worked.specs.Row.{Claim, Holds, AllHold, RowHolds, Every}
 use Rattle.worked.specs.UnreachedLaws.{place-never-one}
 use Rattle.worked.specs.Table.{value1, value2, value3, value4, value5, value6, value7, value8, value9, table}

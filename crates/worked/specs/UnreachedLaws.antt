@@ -5,11 +5,11 @@ use Rattle.std.proofs.Common.{inl, inr, eqb-true}
 use native.Mathlib.Omega.{arith}
 use Rattle.std.proofs.lemmas.Bool.{eqb-false}
 use Rattle.hash.specs.Formula.{product, high_part, hashed, multiplier, place_of}
-use Rattle.hash.specs.FormulaLaws.{multiplier-odd, place-below}
+use Rattle.hash.proofs.FormulaLaws.{multiplier-odd, place-below}
 use Rattle.filling.specs.Filling.{Fills}
-use Rattle.filling.specs.FillingLaws.{unreached}
+use Rattle.filling.proofs.FillingLaws.{unreached}
 use Rattle.group.specs.Group.{group_under, least_seed}
-use Rattle.group.specs.GroupLaws.{candidates-length, each-candidate, least_seed-out}
+use Rattle.group.proofs.GroupLaws.{candidates-length, each-candidate, least_seed-out}
 use Rattle.worked.specs.Table.{unreachable}
 
 -- The products of an odd number with a quarter and three quarters of 2^32 are these two, in one order or the other, as the

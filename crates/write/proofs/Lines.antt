@@ -6,16 +6,16 @@ use native.Mathlib.Omega.{arith}
 use native.Mathlib.Numerals.{add-one}
 use lib.ListN.{length, get_or, drop}
 use Rattle.text.specs.Line.{line_length, pair_line, tag_line}
-use Rattle.text.specs.LineLaws.{up_to-lines, flatten-length}
+use Rattle.text.proofs.LineLaws.{up_to-lines, flatten-length}
 use Rattle.lists.specs.UpTo.{up_to}
 use Rattle.image.specs.Sheet.{bytes_of, image_length}
-use Rattle.lists.specs.UpToLaws.{up_to-length, flatten-more}
-use Rattle.image.specs.SheetLaws.{bytes-length}
+use Rattle.lists.proofs.UpToLaws.{up_to-length, flatten-more}
+use Rattle.image.proofs.SheetLaws.{bytes-length}
 use Rattle.numbering.specs.Parts.{part_start}
 use Rattle.write.specs.Stated.{stated_sheet, stated_line, Writable}
 use Rattle.write.specs.StatedLaws.{line-length, line-group, line-slot, stated-bytes}
 use Rattle.lists.specs.Written.{written_at}
-use Rattle.lists.specs.WrittenLaws.{written-nothing, written-first, written-length, written_next}
+use Rattle.lists.proofs.WrittenLaws.{written-nothing, written-first, written-length, written_next}
 
 -- The first k lines are written, and the other bytes are as they were.
 pub record LinesWritten (ends seeds slots : List ℕ) (groups count : ℕ) (before bytes : List ℕ) (k : ℕ) : Type 0 where

@@ -8,10 +8,10 @@ use mathlib.Core.List.{List, ◌++◌, flatten}
 use native.Mathlib.Omega.{arith}
 use Rattle.std.proofs.Math.ListN.{length}
 use Rattle.text.specs.Line.{line_length, pair_line, tag_line}
-use Rattle.text.specs.LineLaws.{pair_line-length, tag_line-length}
+use Rattle.text.proofs.LineLaws.{pair_line-length, tag_line-length}
 use Rattle.lists.specs.UpTo.{up_to}
 use Rattle.image.specs.Sheet.{lines_of, bytes_of}
-use Rattle.lists.specs.UpToLaws.{up_to-append, up_to-agree}
+use Rattle.lists.proofs.UpToLaws.{up_to-append, up_to-agree}
 use Rattle.numbering.specs.Parts.{part_start}
 use Rattle.write.specs.Stated.{stated_sheet, stated_line}
 

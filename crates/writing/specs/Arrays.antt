@@ -2,7 +2,7 @@
 use Rattle.std.specs.Prelude.{◌≡◌, List, ℕ, suc, ◌≤◌, length}
 use Rattle.refusal.specs.Limits.{tags_max, groups_max}
 use Rattle.refusal.specs.Checks.{Pass}
-use Rattle.refusal.specs.ChecksLaws.{checks_before}
+use Rattle.refusal.specs.ChecksBefore.{checks_before}
 use Rattle.numbering.specs.Plan.{planned_groups}
 use Rattle.numbering.specs.Writing.{writing_checks}
 use Rattle.order.specs.Sorted.{Sorted}

@@ -9,26 +9,27 @@ use native.Mathlib.Omega.{arith}
 use Rattle.std.proofs.Math.ListN.{get_or, length-append, get_or-append}
 use borrow.Author.Tests.{ltb-false}
 use Rattle.refusal.specs.Limits.{tags_max, groups_max}
-use Rattle.refusal.specs.LimitsLaws.{inside}
+use Rattle.refusal.proofs.LimitsLaws.{inside}
 use Rattle.refusal.specs.Outcome.{answered}
 use Rattle.refusal.specs.Checks.{Check, Pass}
-use Rattle.refusal.specs.ChecksLaws.{false-of-met, passed, checks_before, passed_on}
+use Rattle.refusal.specs.ChecksBefore.{checks_before}
+use Rattle.refusal.proofs.ChecksLaws.{false-of-met, passed, passed_on}
 use Rattle.lists.specs.First.{first}
-use Rattle.lists.specs.FirstLaws.{first_cong}
+use Rattle.lists.proofs.FirstLaws.{first_cong}
 use Rattle.lists.specs.UpTo.{up_to}
-use Rattle.lists.specs.UpToLaws.{up_to-agree}
-use Rattle.group.specs.AscendingLaws.{ascending-distinct}
+use Rattle.lists.proofs.UpToLaws.{up_to-agree}
+use Rattle.group.proofs.AscendingLaws.{ascending-distinct}
 use Rattle.image.specs.Sheet.{bytes_of, image_length}
-use Rattle.image.specs.SheetLaws.{bytes-agree}
+use Rattle.image.proofs.SheetLaws.{bytes-agree}
 use Rattle.numbering.specs.Members.{members}
-use Rattle.numbering.specs.MembersLaws.{members-distinct, start-all}
+use Rattle.numbering.proofs.MembersLaws.{members-distinct, start-all}
 use Rattle.numbering.specs.Parts.{part_start}
 use Rattle.numbering.specs.GroupSlots.{group_slots}
-use Rattle.numbering.specs.SlotsLaws.{slots-numbered}
+use Rattle.numbering.proofs.SlotsLaws.{slots-numbered}
 use Rattle.numbering.specs.Plan.{planned_groups, planned_seed}
 use Rattle.numbering.specs.Planning.{too_large}
 use Rattle.numbering.specs.Writing.{sheet_of, choices_under, image_under, unfilled, writing_checks, planned_image, writing_of}
-use Rattle.numbering.specs.WritingLaws.{image-length, Fit, fit-of-pass, Ready, ready-of-pass, ready-fill, writing-answered}
+use Rattle.numbering.proofs.WritingLaws.{image-length, Fit, fit-of-pass, Ready, ready-of-pass, ready-fill, writing-answered}
 use Rattle.arrange.specs.Arrange.{slots_of_part, all_slots, slots_into, unfilled_part, AllArrangeable}
 use Rattle.arrange.specs.SlotsLaws.{slots_length}
 use Rattle.write.specs.Stated.{stated_sheet, Writable}

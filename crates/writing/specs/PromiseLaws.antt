@@ -4,7 +4,7 @@ use Rattle.std.proofs.Common.{sym, ◌∙◌}
 use Rattle.refusal.specs.Limits.{tag_end}
 use Rattle.refusal.specs.Outcome.{Outcome, refused}
 use Rattle.numbering.specs.Writing.{writing_of, buffer_written}
-use Rattle.numbering.specs.WritingLaws.{writing-kept}
+use Rattle.numbering.proofs.WritingLaws.{writing-kept}
 use Rattle.condition3.specs.Condition3.{WritingCondition3}
 use Rattle.condition3_theorem.specs.Condition3Theorem.{tags-of-words, writing-condition3}
 

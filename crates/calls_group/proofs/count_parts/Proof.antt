@@ -4,13 +4,13 @@ use mathlib.Core.Path.{sym, ◌∙◌, ap}
 use native.Mathlib.Omega.{arith}
 use Rattle.refusal.specs.Limits.{group_max}
 use Rattle.refusal.specs.Outcome.{answered_by}
-use Rattle.refusal.specs.PlaceLaws.{place-below}
+use Rattle.refusal.proofs.PlaceLaws.{place-below}
 use Rattle.graph.specs.HowMany.{one}
 use Rattle.parts.specs.Answer.{parts_outcome}
 use Rattle.parts.specs.declared.PartsAnswer.{PartsAnswer}
 use Rattle.answer64.specs.Answer64.{answer64}
 use Rattle.calls_group.specs.Parts.{parts_number}
-use Rattle.calls_group.specs.PartsLaws.{parts-place, parts-promised}
+use Rattle.calls_group.proofs.PartsLaws.{parts-place, parts-promised}
 use Rattle.calls_group.proofs.count_parts.Statement.{statement}
 use Rattle.calls_group.proofs.count_parts.Tie as tie
 

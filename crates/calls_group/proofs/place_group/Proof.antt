@@ -5,12 +5,12 @@ use mathlib.Core.Path.{sym, ◌∙◌, ap}
 use native.Mathlib.Omega.{arith}
 use Rattle.refusal.specs.Limits.{group_max}
 use Rattle.refusal.specs.Outcome.{answered_by}
-use Rattle.refusal.specs.PlaceLaws.{place-below}
+use Rattle.refusal.proofs.PlaceLaws.{place-below}
 use Rattle.placing.specs.Answer.{placing_outcome}
 use Rattle.placing.specs.declared.PlacingAnswer.{PlacingAnswer}
 use Rattle.answer64.specs.Answer64.{answer64}
 use Rattle.calls_group.specs.Place.{cell_with}
-use Rattle.calls_group.specs.PlaceLaws.{placing-place, seed_answered, placed-promised}
+use Rattle.calls_group.proofs.PlaceLaws.{placing-place, seed_answered, placed-promised}
 use Rattle.calls_group.proofs.place_group.Statement.{statement}
 use Rattle.calls_group.proofs.place_group.Tie as tie
 

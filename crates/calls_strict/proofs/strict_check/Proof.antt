@@ -4,11 +4,11 @@ use borrow.Author.Rules.{rules}
 use mathlib.Core.Path.{sym, ◌∙◌, ap}
 use native.Mathlib.Omega.{arith}
 use Rattle.checking.specs.Answer.{check_outcome}
-use Rattle.refusal.specs.PlaceLaws.{place-below}
+use Rattle.refusal.proofs.PlaceLaws.{place-below}
 use Rattle.strict.specs.StrictCheck.{strict_check_of}
 use Rattle.strict_condition.specs.Condition.{StrictCondition}
 use Rattle.answer64.specs.Answer64.{answer64}
-use Rattle.answer64.specs.Answer64Laws.{promised64}
+use Rattle.answer64.proofs.Answer64Laws.{promised64}
 use Rattle.opening.specs.PlaceLaws.{image_lines}
 use Rattle.calls_strict.specs.Strict.{strict_check_answer}
 use Rattle.calls_strict.specs.StrictLaws.{strict_place, strict-fits}

@@ -12,11 +12,11 @@ use Rattle.building.specs.declared.BuildAnswer.{BuildAnswer}
 use Rattle.tagless.specs.FromText.{tagless_buffer_from_text}
 use Rattle.tagless_from_text.specs.Condition.{TextTaglessCondition}
 use Rattle.tagless_from_text.specs.PromiseLaws.{TextPromised}
-use Rattle.refusal.specs.PlaceLaws.{place-below}
+use Rattle.refusal.proofs.PlaceLaws.{place-below}
 use Rattle.from_text.specs.PlaceLaws.{text_lines}
 use Rattle.tagless_from_text.specs.PlaceLaws.{tagless-text-place}
 use Rattle.answer64.specs.Answer64.{answer64}
-use Rattle.answer64.specs.Answer64Laws.{promised64}
+use Rattle.answer64.proofs.Answer64Laws.{promised64}
 use Rattle.calls_tagless.specs.Tagless.{tagless_build_answer, TaglessBuildCondition}
 use Rattle.calls_tagless.specs.TaglessLaws.{tagless-build-fits}
 use Rattle.calls_tagless.proofs.build.Statement.{statement}

@@ -4,7 +4,7 @@ use borrow.Author.Rules.{rules}
 use mathlib.Core.Path.{sym, ◌∙◌, ap}
 use native.Mathlib.Omega.{arith}
 use Rattle.checking.specs.Answer.{check_outcome}
-use Rattle.refusal.specs.PlaceLaws.{place-below}
+use Rattle.refusal.proofs.PlaceLaws.{place-below}
 use Rattle.answer64.specs.Answer64.{answer64}
 use Rattle.opening.specs.PlaceLaws.{image_lines}
 use Rattle.calls_tagless.specs.Tagless.{tagless_check_answer}

@@ -7,7 +7,7 @@ use native.Mathlib.Omega.{arith}
 use Rattle.refusal.specs.Outcome.{Outcome, answered_by}
 use Rattle.image.specs.Lookup.{Found}
 use Rattle.lookup.specs.Answer.{lookup_outcome}
-use Rattle.refusal.specs.PlaceLaws.{place-below}
+use Rattle.refusal.proofs.PlaceLaws.{place-below}
 use Rattle.answer64.specs.Answer64.{answer64, found_number}
 use Rattle.calls_tagless.specs.Tagless.{tagless_lookup_answer}
 use Rattle.calls_tagless.specs.TaglessLaws.{tagless-lookup-place, tagless-condition2}

@@ -12,7 +12,7 @@ use Rattle.filling.specs.Filling.{place_by}
 use Rattle.filling.specs.Word.{choice_number}
 use Rattle.places.specs.Array.{places_by, laid_into}
 use Rattle.group.specs.Group.{both_places, candidates}
-use Rattle.group.specs.GroupLaws.{candidates-length}
+use Rattle.group.proofs.GroupLaws.{candidates-length}
 use Rattle.candidates.proofs.candidate_places.Statement.{statement}
 use Rattle.candidates.proofs.candidate_places.Tie as tie
 

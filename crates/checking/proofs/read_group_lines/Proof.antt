@@ -8,10 +8,10 @@ use mathlib.Core.Option.{Option, none, some}
 use Prim.Native.Nat.{ℕ, ◌+◌, ◌-◌, ◌<◌}
 use native.Mathlib.Omega.{arith}
 use Rattle.lists.specs.First.{is_some}
-use Rattle.lists.specs.SearchLaws.{Searched, searched-start, searched-turn, searched-found, searched-done}
+use Rattle.lists.proofs.SearchLaws.{Searched, searched-start, searched-turn, searched-found, searched-done}
 use Rattle.text.specs.declared.Pair.{Pair}
 use Rattle.text.specs.Line.{line_at, group_line}
-use Rattle.text.specs.LineLaws.{line_reads}
+use Rattle.text.proofs.LineLaws.{line_reads}
 use Rattle.text.specs.Answer.{pair_meaning}
 use Rattle.image.specs.View.{view_of}
 use Rattle.image.specs.Checking.{malformed_in}

@@ -7,7 +7,7 @@ use native.Mathlib.Omega.{arith}
 use lib.ListN.{get_or}
 use Rattle.refusal.specs.Limits.{unwired}
 use Rattle.lists.specs.First.{first}
-use Rattle.lists.specs.SearchLaws.{Searched, searched-start, searched-turn, searched-found, searched-done}
+use Rattle.lists.proofs.SearchLaws.{Searched, searched-start, searched-turn, searched-found, searched-done}
 use Rattle.checking.specs.Steps.{unwired_at}
 use Rattle.checking.proofs.unwired_slot.Statement.{statement}
 use Rattle.checking.proofs.unwired_slot.Tie as tie

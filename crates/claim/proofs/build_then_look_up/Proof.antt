@@ -5,7 +5,7 @@ use native.Mathlib.Omega.{arith}
 use lib.Seq.{length-take-le}
 use Rattle.building.specs.Answer.{build_outcome}
 use Rattle.condition3_theorem.specs.Condition3Theorem.{tags-of-words}
-use Rattle.claim.specs.ClaimLaws.{claim-refused, written-within, claim-found}
+use Rattle.claim.proofs.ClaimLaws.{claim-refused, written-within, claim-found}
 use borrow.Author.Rules.{rules}
 use Rattle.claim.proofs.build_then_look_up.Statement.{statement}
 use Rattle.claim.proofs.build_then_look_up.Tie as tie

@@ -1,7 +1,7 @@
 -- `digits::width_of` meets its contract: the range of each width begins with a power of ten and ends one below the next. Assumes
 -- nothing.
 use native.Mathlib.Omega.{arith}
-use Rattle.digits.specs.WidthLaws.{width-case}
+use Rattle.digits.proofs.WidthLaws.{width-case}
 use Rattle.digits.proofs.width_of.Statement.{statement}
 use Rattle.digits.proofs.width_of.Tie as tie
 

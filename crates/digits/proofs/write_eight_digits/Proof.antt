@@ -4,7 +4,7 @@ use borrow.Author.Rules.{rules}
 use mathlib.Core.Path.{◌∙◌}
 use native.Mathlib.Omega.{arith}
 use lib.ListN.{length-set}
-use Rattle.digits.specs.DigitsLaws.{word_bytes}
+use Rattle.digits.proofs.DigitsLaws.{word_bytes}
 use Rattle.digits.proofs.Stores.{eight-written}
 use Rattle.digits.proofs.write_eight_digits.Statement.{statement}
 use Rattle.digits.proofs.write_eight_digits.Tie as tie

@@ -13,13 +13,13 @@ use lib.Seq.{get_or-take, take_all, ext_get_or}
 use borrow.Author.Rules.{rules}
 use Rattle.refusal.specs.Limits.{group_max}
 use Rattle.lists.specs.UpTo.{up_to}
-use Rattle.lists.specs.UpToLaws.{up_to-length, up_to-at}
+use Rattle.lists.proofs.UpToLaws.{up_to-length, up_to-at}
 use Rattle.places.specs.Array.{entry_of, key_at, keys_of}
-use Rattle.places.specs.ArrayLaws.{keys_of-length}
+use Rattle.places.proofs.ArrayLaws.{keys_of-length}
 use Rattle.equations.specs.Equation.{with_key, equation_of}
-use Rattle.equations.specs.EquationLaws.{equation-none, equation-more, cell-xor}
+use Rattle.equations.proofs.EquationLaws.{equation-none, equation-more, cell-xor}
 use Rattle.equations.specs.Stated.{Stated}
-use Rattle.equations.specs.StatedLaws.{stated-rows}
+use Rattle.equations.proofs.StatedLaws.{stated-rows}
 use Rattle.equations.proofs.equations_of.Statement.{statement}
 use Rattle.equations.proofs.equations_of.Tie as tie
 

@@ -9,13 +9,13 @@ use lib.ListN.{length, get_or, take}
 use borrow.Author.Rules.{rules}
 use Rattle.refusal.specs.Limits.{group_max}
 use Rattle.filling.specs.Filling.{Key}
-use Rattle.lists.specs.UpToLaws.{up_to-at}
+use Rattle.lists.proofs.UpToLaws.{up_to-at}
 use Rattle.places.specs.Array.{keys_of}
-use Rattle.places.specs.ArrayLaws.{keys_of-length}
+use Rattle.places.proofs.ArrayLaws.{keys_of-length}
 use Rattle.equations.specs.Equation.{equation_of}
-use Rattle.equations.specs.EquationLaws.{Rows, equation-fits}
-use Rattle.equations.specs.StatedLaws.{stated-rows}
-use Rattle.equations.specs.SystemLaws.{System, system-start, system-turn, least-none, least-some}
+use Rattle.equations.proofs.EquationLaws.{Rows, equation-fits}
+use Rattle.equations.proofs.StatedLaws.{stated-rows}
+use Rattle.equations.proofs.SystemLaws.{System, system-start, system-turn, least-none, least-some}
 use Rattle.equations.proofs.least_word.Statement.{statement}
 use Rattle.equations.proofs.least_word.Tie as tie
 

@@ -2,7 +2,7 @@
 use borrow.Author.Rules.{rules}
 use mathlib.Core.Path.{sym, ◌∙◌, ap}
 use Rattle.refusal.specs.Outcome.{Outcome, answered_by}
-use Rattle.refusal.specs.OutcomeLaws.{by-refused}
+use Rattle.refusal.proofs.OutcomeLaws.{by-refused}
 use Rattle.list.specs.Reading.{Listed, cells_after}
 use Rattle.list.specs.Answer.{head_of}
 use Rattle.from_text.specs.PromiseLaws.{text-long, text-read}

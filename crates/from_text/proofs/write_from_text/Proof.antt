@@ -3,7 +3,7 @@
 use borrow.Author.Rules.{rules}
 use mathlib.Core.Path.{refl, sym, ◌∙◌, ap}
 use native.Mathlib.Omega.{arith}
-use Rattle.refusal.specs.OutcomeLaws.{refused-of-by}
+use Rattle.refusal.proofs.OutcomeLaws.{refused-of-by}
 use Rattle.list.specs.Answer.{head_of, list_outcome}
 use Rattle.from_text.specs.PromiseLaws.{ReadInto, read-into, write-unread, write_read}
 use Rattle.from_text.proofs.write_from_text.Statement.{statement}

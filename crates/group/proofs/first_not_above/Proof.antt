@@ -6,9 +6,9 @@ use mathlib.Core.Bool.{false}
 use Prim.Native.Nat.{ℕ, ◌-◌, ◌<◌}
 use native.Mathlib.Omega.{arith}
 use lib.ListN.{length}
-use Rattle.lists.specs.FirstLaws.{first_found, first_out}
+use Rattle.lists.proofs.FirstLaws.{first_found, first_out}
 use Rattle.group.specs.Ascending.{not_above}
-use Rattle.group.specs.AscendingLaws.{first_above, not-above, above}
+use Rattle.group.proofs.AscendingLaws.{first_above, not-above, above}
 use Rattle.group.proofs.first_not_above.Statement.{statement}
 use Rattle.group.proofs.first_not_above.Tie as tie
 

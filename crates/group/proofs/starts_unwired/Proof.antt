@@ -2,7 +2,7 @@
 use borrow.Author.Rules.{rules}
 use mathlib.Core.Path.{sym}
 use native.Mathlib.Omega.{arith}
-use Rattle.group.specs.UnwiredLaws.{starts_none, starts_with}
+use Rattle.group.proofs.UnwiredLaws.{starts_none, starts_with}
 use Rattle.group.proofs.starts_unwired.Statement.{statement}
 use Rattle.group.proofs.starts_unwired.Tie as tie
 

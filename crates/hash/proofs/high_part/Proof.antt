@@ -3,7 +3,7 @@
 use borrow.Author.Rules.{rules}
 use native.Mathlib.Omega.{arith}
 use Rattle.hash.specs.Formula.{high_part}
-use Rattle.hash.specs.FormulaLaws.{product-fits}
+use Rattle.hash.proofs.FormulaLaws.{product-fits}
 use Rattle.hash.proofs.high_part.Statement.{statement}
 use Rattle.hash.proofs.high_part.Tie as tie
 

@@ -4,7 +4,7 @@ use borrow.Author.Rules.{rules}
 use mathlib.Core.Path.{◌≡◌, sym}
 use mathlib.Core.Bool.{false}
 use Rattle.refusal.specs.Limits.{group_max, outside}
-use Rattle.hash.specs.OneTagLaws.{one-tag-size, one-tag-seed, one-tag-choice, one-tag-place}
+use Rattle.hash.proofs.OneTagLaws.{one-tag-size, one-tag-seed, one-tag-choice, one-tag-place}
 use Rattle.hash.proofs.place_of_one_tag.Statement.{statement}
 use Rattle.hash.proofs.place_of_one_tag.Tie as tie
 

@@ -2,7 +2,7 @@
 -- Assumes nothing.
 use borrow.Author.Rules.{rules}
 use Rattle.hash.specs.Formula.{product}
-use Rattle.hash.specs.FormulaLaws.{product-fits}
+use Rattle.hash.proofs.FormulaLaws.{product-fits}
 use Rattle.hash.proofs.wrapping_multiply.Statement.{statement}
 use Rattle.hash.proofs.wrapping_multiply.Tie as tie
 

@@ -8,7 +8,7 @@ use borrow.Author.Rules.{rules}
 use Rattle.refusal.specs.Limits.{group_max}
 use Rattle.filling.specs.Word.{choice_number}
 use Rattle.bits.specs.WordBits.{choice_in}
-use Rattle.places.specs.ArrayLaws.{candidates-fewer}
+use Rattle.places.proofs.ArrayLaws.{candidates-fewer}
 use Rattle.insertion.specs.OccupantsLaws.{occupant-within}
 use Rattle.insertion.specs.InsertedLaws.{Inserting, inserting-start, inserting-within, inserting-done}
 use Rattle.insertion.specs.InsertedLaws.{inserting-returned, inserting-stuck, place-part, inserting-turn}

@@ -1,6 +1,6 @@
 -- `labels::merged` meets its contract: the label that is merged becomes the other, and any other stays. Assumes nothing.
 use mathlib.Core.Path.{sym}
-use Rattle.graph.specs.ConnectedLaws.{merged-from, merged-other}
+use Rattle.graph.proofs.ConnectedLaws.{merged-from, merged-other}
 use Rattle.labels.proofs.merged.Statement.{statement}
 use Rattle.labels.proofs.merged.Tie as tie
 

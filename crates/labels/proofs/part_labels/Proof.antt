@@ -11,7 +11,7 @@ use Rattle.refusal.specs.Limits.{group_max}
 use Rattle.lists.specs.UpTo.{up_to}
 use Rattle.graph.specs.Label.{labels_of}
 use Rattle.places.specs.Array.{entry_of, keys_of}
-use Rattle.places.specs.ArrayLaws.{keys_of-length, keys_of-place}
+use Rattle.places.proofs.ArrayLaws.{keys_of-length, keys_of-place}
 use Rattle.labels.specs.LabelsLaws.{labels_length, labels-none, labels-turn, numbered-turn, numbered-done}
 use Rattle.labels.proofs.part_labels.Statement.{statement}
 use Rattle.labels.proofs.part_labels.Tie as tie

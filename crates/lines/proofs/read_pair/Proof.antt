@@ -3,7 +3,7 @@ use borrow.Author.Rules.{rules}
 use mathlib.Core.Path.{◌∙◌}
 use native.Mathlib.Omega.{arith}
 use Rattle.text.specs.Line.{line_length}
-use Rattle.text.specs.PartLaws.{part-whole}
+use Rattle.text.proofs.PartLaws.{part-whole}
 use Rattle.lines.proofs.CutOff.{pair-short}
 use Rattle.lines.proofs.read_pair.Statement.{statement}
 use Rattle.lines.proofs.read_pair.Tie as tie

@@ -6,13 +6,13 @@ use mathlib.Core.Logic.{inl, inr, ⊎_elim}
 use mathlib.Core.List.{List}
 use Prim.Native.Nat.{ℕ, ◌*◌, ◌-◌}
 use native.Mathlib.Omega.{arith}
-use Rattle.lists.specs.SearchLaws.{searched-done}
+use Rattle.lists.proofs.SearchLaws.{searched-done}
 use Rattle.text.specs.declared.Tag.{Tag}
 use Rattle.text.specs.Answer.{tag_meaning}
 use Rattle.text.specs.Line.{line_length, line_at}
-use Rattle.text.specs.LineLaws.{line_reads}
+use Rattle.text.proofs.LineLaws.{line_reads}
 use Rattle.text.specs.TagLines.{tag_in}
-use Rattle.text.specs.PartLaws.{part-whole}
+use Rattle.text.proofs.PartLaws.{part-whole}
 use Rattle.lines.proofs.Examined.{Examined, examined-start, examined-turn, examined-found}
 use Rattle.lines.proofs.read_tag_lines.Statement.{statement}
 use Rattle.lines.proofs.read_tag_lines.Tie as tie

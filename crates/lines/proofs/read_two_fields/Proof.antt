@@ -2,7 +2,7 @@
 use borrow.Author.Rules.{rules}
 use mathlib.Core.Path.{◌∙◌}
 use native.Mathlib.Omega.{arith}
-use Rattle.text.specs.PartLaws.{part-whole}
+use Rattle.text.proofs.PartLaws.{part-whole}
 use Rattle.lines.proofs.CutOff.{fields-short, fields-whole}
 use Rattle.lines.proofs.read_two_fields.Statement.{statement}
 use Rattle.lines.proofs.read_two_fields.Tie as tie

@@ -1,8 +1,8 @@
 -- `lines::write_field` meets its contract: the figure is written into the field's part, and the part put back. Assumes nothing.
 use borrow.Author.Rules.{rules}
 use Rattle.text.specs.Figure.{figure}
-use Rattle.text.specs.FigureLaws.{figure-length}
-use Rattle.text.specs.PartLaws.{part_length, part-written}
+use Rattle.text.proofs.FigureLaws.{figure-length}
+use Rattle.text.proofs.PartLaws.{part_length, part-written}
 use Rattle.lines.proofs.write_field.Statement.{statement}
 use Rattle.lines.proofs.write_field.Tie as tie
 

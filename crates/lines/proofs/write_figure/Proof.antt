@@ -1,6 +1,6 @@
 -- `lines::write_figure` meets its contract: a figure is digits from the number's first column on. Assumes nothing.
 use borrow.Author.Rules.{rules}
-use Rattle.text.specs.FigureLaws.{figure-from}
+use Rattle.text.proofs.FigureLaws.{figure-from}
 use Rattle.lines.proofs.write_figure.Statement.{statement}
 use Rattle.lines.proofs.write_figure.Tie as tie
 

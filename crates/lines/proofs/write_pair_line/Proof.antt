@@ -4,9 +4,9 @@ use mathlib.Core.List.{◌++◌}
 use Prim.Native.Nat.{◌+◌}
 use native.Mathlib.Omega.{arith}
 use lib.ListN.{length-set, length-append}
-use Rattle.lists.specs.WrittenLaws.{written_next, written_byte}
+use Rattle.lists.proofs.WrittenLaws.{written_next, written_byte}
 use Rattle.text.specs.Figure.{figure}
-use Rattle.text.specs.FigureLaws.{figure-length}
+use Rattle.text.proofs.FigureLaws.{figure-length}
 use Rattle.text.specs.Line.{pair_line}
 use Rattle.lines.proofs.write_pair_line.Statement.{statement}
 use Rattle.lines.proofs.write_pair_line.Tie as tie

@@ -8,13 +8,13 @@ use native.Mathlib.Omega.{arith}
 use lib.ListN.{length}
 use borrow.Rule.Slice.PartMut.{put_mid}
 use Rattle.lists.specs.Written.{written_at}
-use Rattle.lists.specs.WrittenLaws.{written_next}
+use Rattle.lists.proofs.WrittenLaws.{written_next}
 use Rattle.digits.specs.Digits.{digits, digits_from}
-use Rattle.digits.specs.DigitsLaws.{digits_from-length, eight-behind}
+use Rattle.digits.proofs.DigitsLaws.{digits_from-length, eight-behind}
 use Rattle.digits.specs.Width.{width_of}
 use Rattle.text.specs.Figure.{figure}
-use Rattle.text.specs.FigureLaws.{figure-from}
-use Rattle.text.specs.PartLaws.{part_length, part-written}
+use Rattle.text.proofs.FigureLaws.{figure-from}
+use Rattle.text.proofs.PartLaws.{part_length, part-written}
 use Rattle.lines.proofs.write_tag.Statement.{statement}
 use Rattle.lines.proofs.write_tag.Tie as tie
 

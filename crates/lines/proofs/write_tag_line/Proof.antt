@@ -2,9 +2,9 @@
 use borrow.Author.Rules.{rules}
 use Prim.Native.Nat.{◌+◌}
 use native.Mathlib.Omega.{arith}
-use Rattle.lists.specs.WrittenLaws.{written_byte}
+use Rattle.lists.proofs.WrittenLaws.{written_byte}
 use Rattle.text.specs.Figure.{figure}
-use Rattle.text.specs.FigureLaws.{figure-length}
+use Rattle.text.proofs.FigureLaws.{figure-length}
 use Rattle.text.specs.Line.{tag_line}
 use Rattle.lines.proofs.write_tag_line.Statement.{statement}
 use Rattle.lines.proofs.write_tag_line.Tie as tie

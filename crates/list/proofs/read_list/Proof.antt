@@ -7,19 +7,19 @@ use Prim.Native.Nat.{ℕ}
 use native.Mathlib.Omega.{arith}
 use lib.ListN.{length, drop}
 use Rattle.refusal.specs.Outcome.{Outcome, answered, refused, answered_by}
-use Rattle.refusal.specs.OutcomeLaws.{by-answered, by-refused}
+use Rattle.refusal.proofs.OutcomeLaws.{by-answered, by-refused}
 use Rattle.refusal.specs.declared.First.{First}
 use Rattle.refusal.specs.Answer.{first_meaning}
 use Rattle.lists.specs.First.{first}
 use Rattle.text.specs.declared.Pair.{Pair}
 use Rattle.text.specs.Line.{line_at, list_header}
-use Rattle.text.specs.LineLaws.{line_reads}
-use Rattle.text.specs.TagLinesLaws.{stored-length, stored-tags}
+use Rattle.text.proofs.LineLaws.{line_reads}
+use Rattle.text.proofs.TagLinesLaws.{stored-length, stored-tags}
 use Rattle.text.specs.Answer.{pair_meaning}
 use Rattle.list.specs.Reading.{malformed, line_count, tag_count, tags_from, listed_in, reading_of, cells_after}
 use Rattle.list.specs.Answer.{ListHead, head_of}
-use Rattle.list.specs.ReadingLaws.{Whole, header-malformed, malformed-lines, tags-on, tags_from-length, head-is, read_short}
-use Rattle.list.specs.ReadingLaws.{read-uneven, read-header-malformed, read-malformed, read-many, read-narrow, read-answered}
+use Rattle.list.proofs.ReadingLaws.{Whole, header-malformed, malformed-lines, tags-on, tags_from-length, head-is, read_short}
+use Rattle.list.proofs.ReadingLaws.{read-uneven, read-header-malformed, read-malformed, read-many, read-narrow, read-answered}
 use Rattle.list.proofs.read_list.Statement.{statement}
 use Rattle.list.proofs.read_list.Tie as tie
 

@@ -6,7 +6,7 @@ use mathlib.Core.Option.{none, some}
 use Prim.Native.Nat.{suc, ◌+◌}
 use native.Mathlib.Omega.{arith}
 use Rattle.text.specs.Line.{group_line}
-use Rattle.text.specs.LineLaws.{line_reads}
+use Rattle.text.proofs.LineLaws.{line_reads}
 use Rattle.text.specs.Answer.{pair_meaning}
 use Rattle.lookup.specs.StepsLaws.{end-of-last, end-of-next}
 use Rattle.lookup.proofs.group_end.Statement.{statement}

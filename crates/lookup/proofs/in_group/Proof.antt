@@ -9,13 +9,13 @@ use native.Mathlib.Omega.{arith}
 use borrow.Author.Tests.{lt-ltb}
 use Rattle.refusal.specs.Outcome.{Outcome}
 use Rattle.hash.specs.Formula.{group_of}
-use Rattle.hash.specs.FormulaLaws.{group-below}
+use Rattle.hash.proofs.FormulaLaws.{group-below}
 use Rattle.text.specs.Line.{line_at, group_line}
-use Rattle.text.specs.LineLaws.{line_reads, group-only}
+use Rattle.text.proofs.LineLaws.{line_reads, group-only}
 use Rattle.text.specs.Answer.{pair_meaning}
 use Rattle.image.specs.Lookup.{Found}
 use Rattle.image.specs.View.{view_of}
-use Rattle.image.specs.FaultLaws.{fair-of-faulty}
+use Rattle.image.proofs.FaultLaws.{fair-of-faulty}
 use Rattle.lookup.specs.Answer.{end_meaning}
 use Rattle.lookup.specs.Steps.{end_of, group_outcome}
 use Rattle.lookup.specs.StepsLaws.{own-malformed, next-malformed, group-faulty, group-slots}

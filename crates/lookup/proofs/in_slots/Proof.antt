@@ -6,9 +6,9 @@ use mathlib.Core.Option.{some}
 use Prim.Native.Nat.{ℕ, ◌+◌, ◌-◌, ◌≤◌, ◌<◌}
 use native.Mathlib.Omega.{arith}
 use Rattle.hash.specs.Formula.{place_of}
-use Rattle.hash.specs.FormulaLaws.{place-below}
+use Rattle.hash.proofs.FormulaLaws.{place-below}
 use Rattle.text.specs.Line.{slot_line}
-use Rattle.text.specs.LineLaws.{line_reads}
+use Rattle.text.proofs.LineLaws.{line_reads}
 use Rattle.text.specs.Answer.{tag_meaning}
 use Rattle.image.specs.View.{view_of}
 use Rattle.image.specs.Lookup.{at_slot}

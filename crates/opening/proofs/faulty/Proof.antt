@@ -2,7 +2,7 @@
 -- Assumes nothing.
 use mathlib.Core.Path.{sym}
 use native.Mathlib.Omega.{arith}
-use Rattle.image.specs.FaultLaws.{faulty-falls, faulty-large, faulty-first, faulty-of-fair}
+use Rattle.image.proofs.FaultLaws.{faulty-falls, faulty-large, faulty-first, faulty-of-fair}
 use Rattle.opening.proofs.faulty.Statement.{statement}
 use Rattle.opening.proofs.faulty.Tie as tie
 

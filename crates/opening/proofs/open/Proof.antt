@@ -3,7 +3,7 @@ use borrow.Author.Rules.{rules}
 use mathlib.Core.Path.{sym, ◌∙◌, ap}
 use native.Mathlib.Omega.{arith}
 use Rattle.text.specs.Line.{line_at}
-use Rattle.text.specs.LineLaws.{image-header-only}
+use Rattle.text.proofs.LineLaws.{image-header-only}
 use Rattle.text.specs.Answer.{pair_meaning}
 use Rattle.opening.specs.OpeningLaws.{open-short, open-malformed, open-other-length, open-counts}
 use Rattle.opening.proofs.open.Statement.{statement}

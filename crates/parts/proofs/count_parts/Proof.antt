@@ -8,11 +8,12 @@ use borrow.Author.Tests.{lt-ltb, le-ltb}
 use Rattle.refusal.specs.Answer.{first_meaning}
 use Rattle.refusal.specs.Outcome.{Outcome, refused}
 use Rattle.refusal.specs.Checks.{Check, Pass}
-use Rattle.refusal.specs.ChecksLaws.{met-true, met-false, met_by, checks_before, passed_on, met-first, in_order-pass}
+use Rattle.refusal.specs.ChecksBefore.{checks_before}
+use Rattle.refusal.proofs.ChecksLaws.{met-true, met-false, met_by, passed_on, met-first, in_order-pass}
 use Rattle.graph.specs.Parts.{Parts}
 use Rattle.parts_condition.specs.Condition.{PartsCondition}
 use Rattle.counting.specs.Counting.{counting_checks, counting_of}
-use Rattle.counting.specs.ConditionLaws.{promised}
+use Rattle.counting.proofs.ConditionLaws.{promised}
 use Rattle.parts.proofs.count_parts.Statement.{statement}
 use Rattle.parts.proofs.count_parts.Tie as tie
 

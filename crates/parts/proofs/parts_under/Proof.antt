@@ -8,7 +8,7 @@ use lib.ListN.{length}
 use borrow.Author.Rules.{rules}
 use Rattle.refusal.specs.Outcome.{answered}
 use Rattle.group.specs.Group.{group_under}
-use Rattle.group.specs.GroupLaws.{group-below}
+use Rattle.group.proofs.GroupLaws.{group-below}
 use Rattle.places.specs.Array.{Candidates, keys_of}
 use Rattle.candidates.specs.LaidLaws.{group-candidates, group-keys}
 use Rattle.graph.specs.Parts.{parts_of}

@@ -7,12 +7,13 @@ use borrow.Author.Rules.{rules}
 use borrow.Author.Tests.{lt-ltb, le-ltb}
 use Rattle.refusal.specs.Answer.{first_meaning}
 use Rattle.refusal.specs.Outcome.{Outcome, refused, answered_by}
-use Rattle.refusal.specs.OutcomeLaws.{by-answered, by-refused}
+use Rattle.refusal.proofs.OutcomeLaws.{by-answered, by-refused}
 use Rattle.refusal.specs.Checks.{Check, Pass}
-use Rattle.refusal.specs.ChecksLaws.{met-true, met-false, met_by, checks_before, passed_on}
+use Rattle.refusal.specs.ChecksBefore.{checks_before}
+use Rattle.refusal.proofs.ChecksLaws.{met-true, met-false, met_by, passed_on}
 use Rattle.group.specs.Placing.{Placement, placing_checks, placing_of}
 use Rattle.seeds.specs.Answer.{found_meaning}
-use Rattle.placing.specs.PlacingLaws.{placing-refused, Placeable, limit-legal, few, placing-unseeded, placing-seeded}
+use Rattle.placing.proofs.PlacingLaws.{placing-refused, Placeable, limit-legal, few, placing-unseeded, placing-seeded}
 use Rattle.placing.proofs.group_seed.Statement.{statement}
 use Rattle.placing.proofs.group_seed.Tie as tie
 

@@ -9,15 +9,15 @@ use native.Mathlib.Omega.{arith}
 use lib.ListN.{length}
 use Rattle.refusal.specs.Limits.{group_max, seed_max}
 use Rattle.refusal.specs.Outcome.{answered, answered_by}
-use Rattle.refusal.specs.OutcomeLaws.{answered-of-by, refused-of-by}
+use Rattle.refusal.proofs.OutcomeLaws.{answered-of-by, refused-of-by}
 use Rattle.filling.specs.Word.{word_of}
 use Rattle.group.specs.Group.{taken, word_under}
-use Rattle.group.specs.GroupLaws.{least_seed-some}
-use Rattle.group.specs.WordLaws.{word-taken}
+use Rattle.group.proofs.GroupLaws.{least_seed-some}
+use Rattle.group.proofs.WordLaws.{word-taken}
 use Rattle.group.specs.Placing.{Placement, placing_of}
 use Rattle.sequence.specs.Answer.{choices_meaning}
 use Rattle.placing.specs.Answer.{seed_outcome}
-use Rattle.placing.specs.PlacingLaws.{few, limit-legal, placing-says}
+use Rattle.placing.proofs.PlacingLaws.{few, limit-legal, placing-says}
 use Rattle.placing.proofs.place_group.Statement.{statement}
 use Rattle.placing.proofs.place_group.Tie as tie
 

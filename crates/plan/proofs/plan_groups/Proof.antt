@@ -4,7 +4,7 @@ use mathlib.Core.Path.{sym, ◌∙◌, ap}
 use Prim.Native.Nat.{◌-◌, ◌≤◌}
 use native.Mathlib.Omega.{arith}
 use lib.ListN.{length, get_or}
-use Rattle.numbering.specs.PartsLaws.{part-bounds}
+use Rattle.numbering.proofs.PartsLaws.{part-bounds}
 use Rattle.placing.specs.Answer.{seed_outcome}
 use Rattle.plan.proofs.Search.{FoundUpTo, found-start, found_turn, found-without, found-done}
 use Rattle.plan.proofs.plan_groups.Statement.{statement}

@@ -5,7 +5,7 @@ use borrow.Author.Rules.{rules}
 use Rattle.refusal.specs.Limits.{groups_max}
 use Rattle.refusal.specs.Answer.{first_meaning}
 use Rattle.numbering.specs.Planning.{earlier_checks}
-use Rattle.numbering.specs.PlanningLaws.{planning-refused, plan-refused}
+use Rattle.numbering.proofs.PlanningLaws.{planning-refused, plan-refused}
 use Rattle.order.specs.Sorted.{OrderedCells}
 use Rattle.order.specs.SortedLaws.{cells-ordered}
 use Rattle.planning.specs.ArraysLaws.{admitted-groups, admitted-count, passed-10}

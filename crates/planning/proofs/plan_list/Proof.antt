@@ -8,10 +8,11 @@ use borrow.Author.Tests.{lt-ltb, le-ltb}
 use Rattle.refusal.specs.Outcome.{Outcome, refused}
 use Rattle.refusal.specs.Answer.{first_meaning}
 use Rattle.refusal.specs.Checks.{Check, Pass}
-use Rattle.refusal.specs.ChecksLaws.{met-true, met-false, met_by, checks_before, passed_on}
+use Rattle.refusal.specs.ChecksBefore.{checks_before}
+use Rattle.refusal.proofs.ChecksLaws.{met-true, met-false, met_by, passed_on}
 use Rattle.numbering.specs.Plan.{no_plan}
 use Rattle.numbering.specs.Planning.{earlier_checks}
-use Rattle.numbering.specs.PlanningLaws.{planning-refused}
+use Rattle.numbering.proofs.PlanningLaws.{planning-refused}
 use Rattle.planning.specs.PromiseLaws.{Promised, promised, promised-refusal}
 use Rattle.planning.proofs.plan_list.Statement.{statement}
 use Rattle.planning.proofs.plan_list.Tie as tie

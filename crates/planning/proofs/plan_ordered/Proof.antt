@@ -9,8 +9,8 @@ use Rattle.refusal.specs.Limits.{groups_max}
 use Rattle.refusal.specs.Answer.{first_meaning}
 use Rattle.numbering.specs.Plan.{plan_of}
 use Rattle.numbering.specs.Planning.{seed_taken}
-use Rattle.numbering.specs.PlanLaws.{plan-length}
-use Rattle.numbering.specs.PlanningLaws.{planning-seedless, planning-answered, plan-yielded, plan-refused}
+use Rattle.numbering.proofs.PlanLaws.{plan-length}
+use Rattle.numbering.proofs.PlanningLaws.{planning-seedless, planning-answered, plan-yielded, plan-refused}
 use Rattle.plan.specs.Seeds.{seeds_found}
 use Rattle.planning.specs.ArraysLaws.{inputs, plannable, seedless-first, plan-stated}
 use Rattle.planning.proofs.plan_ordered.Statement.{statement}

@@ -4,9 +4,9 @@ use borrow.Author.Rules.{rules}
 use mathlib.Core.Path.{sym, ◌∙◌, ap}
 use native.Mathlib.Omega.{arith}
 use Rattle.building.specs.Answer.{build_outcome}
-use Rattle.refusal.specs.PlaceLaws.{place-below}
+use Rattle.refusal.proofs.PlaceLaws.{place-below}
 use Rattle.from_text.specs.PlaceLaws.{text_lines, from-text-place}
-use Rattle.image.specs.SheetLaws.{longest-is}
+use Rattle.image.proofs.SheetLaws.{longest-is}
 use Rattle.printing.specs.PrintingLaws.{printed-nothing, printed-built, printed-refused}
 use Rattle.printing.proofs.print_index.Statement.{statement}
 use Rattle.printing.proofs.print_index.Tie as tie

@@ -1,7 +1,7 @@
 -- `refusal::outside` meets its contract: below the range it is decided, and from its lower end on the upper end decides.
 -- Assumes nothing.
 use Rattle.std.proofs.Common.{sym}
-use Rattle.refusal.specs.LimitsLaws.{outside_below, outside-from}
+use Rattle.refusal.proofs.LimitsLaws.{outside_below, outside-from}
 use Rattle.refusal.proofs.outside.Goals as goal
 
 pub returns-then-x-low : goal.returns-then-x-low

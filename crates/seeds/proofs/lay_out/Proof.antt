@@ -9,7 +9,7 @@ use lib.ListN.{length, take}
 use lib.Seq.{take_all}
 use borrow.Author.Rules.{rules}
 use Rattle.group.specs.Group.{group_under}
-use Rattle.group.specs.GroupLaws.{group-size}
+use Rattle.group.proofs.GroupLaws.{group-size}
 use Rattle.filling.specs.Filling.{Key}
 use Rattle.filling.specs.Separate.{key_place}
 use Rattle.places.specs.Array.{entry_of, places_by, laid_into}

@@ -6,7 +6,7 @@ use lib.ListN.{length}
 use borrow.Author.Rules.{rules}
 use Rattle.refusal.specs.Limits.{group_max}
 use Rattle.lists.specs.UpTo.{up_to}
-use Rattle.lists.specs.UpToLaws.{up_to-at}
+use Rattle.lists.proofs.UpToLaws.{up_to-at}
 use Rattle.seeds.proofs.size_of.Statement.{statement}
 use Rattle.seeds.proofs.size_of.Tie as tie
 

@@ -7,10 +7,10 @@ use native.Mathlib.Omega.{arith}
 use borrow.Author.Rules.{rules}
 use Rattle.lists.specs.UpTo.{up_to}
 use Rattle.filling.specs.Taken.{sequence_taken}
-use Rattle.filling.specs.TakenLaws.{sequence-empty}
+use Rattle.filling.proofs.TakenLaws.{sequence-empty}
 use Rattle.filling.specs.Word.{word_of}
 use Rattle.places.specs.Array.{keys_of}
-use Rattle.places.specs.ArrayLaws.{candidates-fewer}
+use Rattle.places.proofs.ArrayLaws.{candidates-fewer}
 use Rattle.insertion.specs.TakenWordLaws.{nothing-more}
 use Rattle.insertion.specs.Occupants.{occupants_of, occupants_after}
 use Rattle.insertion.specs.OccupantsLaws.{occupants-none}

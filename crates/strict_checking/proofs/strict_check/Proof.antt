@@ -4,7 +4,7 @@ use borrow.Author.Rules.{rules}
 use mathlib.Core.Path.{sym, ◌∙◌, ap}
 use Rattle.opening.specs.Answer.{opened_outcome}
 use Rattle.checking.specs.StepsLaws.{check-unopened}
-use Rattle.strict.specs.StrictTheorem.{refused-first}
+use Rattle.strict.proofs.StrictTheorem.{refused-first}
 use Rattle.strict_checking.specs.GroupsLaws.{owed}
 use Rattle.strict_checking.proofs.strict_check.Statement.{statement}
 use Rattle.strict_checking.proofs.strict_check.Tie as tie

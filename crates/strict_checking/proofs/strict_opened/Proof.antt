@@ -8,7 +8,7 @@ use Rattle.refusal.specs.Outcome.{answered}
 use Rattle.refusal.specs.Answer.{first_meaning}
 use Rattle.image.specs.Checking.{checking_of}
 use Rattle.checking.specs.Answer.{check_outcome}
-use Rattle.strict.specs.StrictTheorem.{refused-first}
+use Rattle.strict.proofs.StrictTheorem.{refused-first}
 use Rattle.strict_checking.specs.GroupsLaws.{all-servable, decided-at, decided-nowhere}
 use Rattle.strict_checking.proofs.strict_opened.Statement.{statement}
 use Rattle.strict_checking.proofs.strict_opened.Tie as tie

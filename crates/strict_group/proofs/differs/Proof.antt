@@ -3,7 +3,7 @@ use borrow.Author.Rules.{rules}
 use mathlib.Core.Path.{◌≡◌, sym, ◌∙◌, ap}
 use lib.ListN.{length, take}
 use Rattle.sorting.specs.Sorted.{sorted}
-use Rattle.sorting.specs.SortedLaws.{sorted-length}
+use Rattle.sorting.proofs.SortedLaws.{sorted-length}
 use Rattle.strict_group.specs.PlacedLaws.{no-tags-differ, sorted_front, sorted-inside}
 use Rattle.strict_group.proofs.differs.Statement.{statement}
 use Rattle.strict_group.proofs.differs.Tie as tie

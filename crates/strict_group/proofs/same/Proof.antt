@@ -8,7 +8,7 @@ use mathlib.Core.List.{List}
 use native.Mathlib.Omega.{arith}
 use native.Mathlib.Nat.{eq-or-lt_of_le}
 use lib.ListN.{length, get_or}
-use Rattle.strict.specs.SameLaws.{same-longer, same-differ, same-each}
+use Rattle.strict.proofs.SameLaws.{same-longer, same-differ, same-each}
 use Rattle.strict_group.proofs.same.Statement.{statement}
 use Rattle.strict_group.proofs.same.Tie as tie
 

@@ -4,7 +4,7 @@ use mathlib.Core.Path.{sym, ◌∙◌, ap}
 use mathlib.Core.Bool.{not}
 use lib.ListN.{length}
 use Rattle.group.specs.Group.{taken}
-use Rattle.numbering.specs.SlotsLaws.{slots_length}
+use Rattle.numbering.proofs.SlotsLaws.{slots_length}
 use Rattle.strict.specs.Same.{same}
 use Rattle.strict_group.proofs.slots_differ.Statement.{statement}
 use Rattle.strict_group.proofs.slots_differ.Tie as tie

@@ -12,10 +12,10 @@ use Rattle.building.specs.declared.BuildAnswer.{BuildAnswer}
 use Rattle.numbering.specs.FromText.{buffer_from_text}
 use Rattle.from_text.specs.Condition3.{TextCondition3}
 use Rattle.from_text.specs.PromiseLaws.{TextPromised}
-use Rattle.refusal.specs.PlaceLaws.{place-below}
+use Rattle.refusal.proofs.PlaceLaws.{place-below}
 use Rattle.from_text.specs.PlaceLaws.{text_lines, from-text-place}
 use Rattle.answer64.specs.Answer64.{answer64}
-use Rattle.answer64.specs.Answer64Laws.{promised64}
+use Rattle.answer64.proofs.Answer64Laws.{promised64}
 use Rattle.tag_index.specs.Calls.{build_answer}
 use Rattle.tag_index.specs.CallsLaws.{build-fits}
 use Rattle.tag_index.specs.Condition3.{BuildCondition3}

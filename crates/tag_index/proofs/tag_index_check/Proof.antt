@@ -4,7 +4,7 @@ use borrow.Author.Rules.{rules}
 use mathlib.Core.Path.{sym, ◌∙◌, ap}
 use native.Mathlib.Omega.{arith}
 use Rattle.checking.specs.Answer.{check_outcome}
-use Rattle.refusal.specs.PlaceLaws.{place-below}
+use Rattle.refusal.proofs.PlaceLaws.{place-below}
 use Rattle.answer64.specs.Answer64.{answer64}
 use Rattle.tag_index.specs.Calls.{check_answer}
 use Rattle.opening.specs.PlaceLaws.{image_lines, checking-place}

@@ -6,7 +6,7 @@ use mathlib.Core.List.{List}
 use Prim.Native.Nat.{ℕ}
 use native.Mathlib.Omega.{arith}
 use Rattle.refusal.specs.Outcome.{Outcome}
-use Rattle.refusal.specs.PlaceLaws.{place-below}
+use Rattle.refusal.proofs.PlaceLaws.{place-below}
 use Rattle.planning.specs.Answer.{plan_outcome}
 use Rattle.planning.specs.declared.PlanAnswer.{PlanAnswer}
 use Rattle.numbering.specs.FromText.{plan_from_text}
@@ -14,7 +14,7 @@ use Rattle.from_text.specs.Condition3.{TextPlanningCondition3}
 use Rattle.from_text.specs.PromiseLaws.{PlanPromised}
 use Rattle.from_text.specs.PlaceLaws.{text_lines, plan-text-place}
 use Rattle.answer64.specs.Answer64.{answer64}
-use Rattle.answer64.specs.Answer64Laws.{promised64}
+use Rattle.answer64.proofs.Answer64Laws.{promised64}
 use Rattle.tag_index.specs.Calls.{plan_answer}
 use Rattle.tag_index.specs.CallsLaws.{plan-fits}
 use Rattle.tag_index.specs.Condition3.{PlanCondition3}

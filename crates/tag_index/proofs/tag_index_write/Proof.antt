@@ -7,7 +7,7 @@ use Prim.Native.Nat.{ℕ}
 use native.Mathlib.Omega.{arith}
 use lib.ListN.{length}
 use Rattle.refusal.specs.Outcome.{Outcome}
-use Rattle.refusal.specs.PlaceLaws.{place-below}
+use Rattle.refusal.proofs.PlaceLaws.{place-below}
 use Rattle.writing.specs.Answer.{write_outcome}
 use Rattle.writing.specs.declared.WriteAnswer.{WriteAnswer}
 use Rattle.numbering.specs.FromText.{written_from_text}
@@ -15,7 +15,7 @@ use Rattle.from_text.specs.Condition3.{TextWritingCondition3}
 use Rattle.from_text.specs.PromiseLaws.{WritePromised}
 use Rattle.from_text.specs.PlaceLaws.{text_lines, write-text-place}
 use Rattle.answer64.specs.Answer64.{answer64}
-use Rattle.answer64.specs.Answer64Laws.{promised64}
+use Rattle.answer64.proofs.Answer64Laws.{promised64}
 use Rattle.tag_index.specs.Calls.{write_answer}
 use Rattle.tag_index.specs.CallsLaws.{write-fits}
 use Rattle.tag_index.specs.Condition3.{WriteCondition3}

@@ -10,7 +10,7 @@ use Rattle.refusal.specs.Answer.{first_meaning}
 use Rattle.order.specs.Sorted.{OrderedCells}
 use Rattle.order.specs.SortedLaws.{cells-ordered}
 use Rattle.tagless.specs.Building.{tagless_building_checks}
-use Rattle.tagless.specs.BuildingLaws.{building-refused, after-refused}
+use Rattle.tagless.proofs.BuildingLaws.{building-refused, after-refused}
 use Rattle.tagless_building.specs.ArraysLaws.{admitted-groups, admitted-count, passed-10}
 use Rattle.tagless_building.proofs.build_admitted.Statement.{statement}
 use Rattle.tagless_building.proofs.build_admitted.Tie as tie

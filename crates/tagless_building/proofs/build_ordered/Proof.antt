@@ -12,7 +12,7 @@ use Rattle.refusal.specs.Answer.{first_meaning}
 use Rattle.lists.specs.First.{first}
 use Rattle.tagless_image.specs.Sheet.{tagless_bytes, tagless_length}
 use Rattle.tagless.specs.Building.{wordless, tagless_building_checks}
-use Rattle.tagless.specs.BuildingLaws.{building-refused, after-refused, after-answered}
+use Rattle.tagless.proofs.BuildingLaws.{building-refused, after-refused, after-answered}
 use Rattle.tagless_plan.specs.Words.{part_seed, part_word, stored_up_to}
 use Rattle.tagless_write.specs.Stated.{stated_sheet, Writable}
 use Rattle.tagless_building.specs.ArraysLaws.{earlier, searchable, wordless-first, seeds-long, words_long, writable, written-bytes}

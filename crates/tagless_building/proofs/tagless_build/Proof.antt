@@ -8,13 +8,14 @@ use lib.ListN.{length}
 use borrow.Author.Rules.{rules}
 use borrow.Author.Tests.{lt-ltb, le-ltb}
 use Rattle.refusal.specs.Limits.{groups_max}
-use Rattle.refusal.specs.LimitsLaws.{inside}
+use Rattle.refusal.proofs.LimitsLaws.{inside}
 use Rattle.refusal.specs.Outcome.{Outcome, refused}
 use Rattle.refusal.specs.Answer.{first_meaning}
 use Rattle.refusal.specs.Checks.{Check, Pass}
-use Rattle.refusal.specs.ChecksLaws.{met-true, met-false, met_by, checks_before, passed_on}
+use Rattle.refusal.specs.ChecksBefore.{checks_before}
+use Rattle.refusal.proofs.ChecksLaws.{met-true, met-false, met_by, passed_on}
 use Rattle.tagless.specs.Building.{tagless_building_checks}
-use Rattle.tagless.specs.BuildingLaws.{building-refused}
+use Rattle.tagless.proofs.BuildingLaws.{building-refused}
 use Rattle.tagless_building.specs.PromiseLaws.{Promised, promised, promised-refusal}
 use Rattle.tagless_building.proofs.tagless_build.Statement.{statement}
 use Rattle.tagless_building.proofs.tagless_build.Tie as tie

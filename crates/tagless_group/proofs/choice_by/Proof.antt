@@ -1,7 +1,7 @@
 -- `tagless_group::choice_by` meets its contract: the parity of the row and the word is the number of the choice. Assumes nothing.
 use mathlib.Core.Path.{sym, ◌∙◌}
 use borrow.Author.Rules.{rules}
-use Rattle.filling.specs.WordLaws.{number-choice}
+use Rattle.filling.proofs.WordLaws.{number-choice}
 use Rattle.parity.specs.ParityLaws.{parity-below}
 use Rattle.tagless_group.specs.Row.{row_of}
 use Rattle.tagless_group.specs.Words.{choice_by}

@@ -5,7 +5,7 @@ use mathlib.Core.Path.{sym, ◌∙◌, ap}
 use native.Mathlib.Omega.{arith}
 use native.Mathlib.Numerals.{add-one}
 use Rattle.text.specs.Answer.{pair_meaning}
-use Rattle.tagless_lookup.specs.StepsLaws.{end-of-last, end-of-malformed, end-of-next}
+use Rattle.tagless_lookup.proofs.StepsLaws.{end-of-last, end-of-malformed, end-of-next}
 use Rattle.tagless_lookup.proofs.group_end.Statement.{statement}
 use Rattle.tagless_lookup.proofs.group_end.Tie as tie
 

@@ -9,17 +9,17 @@ use native.Mathlib.Omega.{arith}
 use borrow.Author.Tests.{lt-ltb}
 use Rattle.refusal.specs.Outcome.{Outcome}
 use Rattle.hash.specs.Formula.{group_of}
-use Rattle.hash.specs.FormulaLaws.{group-below, place-below}
+use Rattle.hash.proofs.FormulaLaws.{group-below, place-below}
 use Rattle.word_line.specs.Answer.{group_word_meaning}
-use Rattle.word_line.specs.WordLineLaws.{word-only}
+use Rattle.word_line.proofs.WordLineLaws.{word-only}
 use Rattle.image.specs.View.{faulty}
 use Rattle.image.specs.Lookup.{Found}
-use Rattle.image.specs.FaultLaws.{fair-of-faulty}
+use Rattle.image.proofs.FaultLaws.{fair-of-faulty}
 use Rattle.lookup.specs.Answer.{end_meaning}
 use Rattle.lookup.specs.Steps.{end_of}
 use Rattle.tagless_image.specs.View.{stated_at, tagless_view}
 use Rattle.tagless_lookup.specs.Steps.{group_outcome}
-use Rattle.tagless_lookup.specs.StepsLaws.{own-malformed, next-malformed, group-faulty, group_empty, group-number}
+use Rattle.tagless_lookup.proofs.StepsLaws.{own-malformed, next-malformed, group-faulty, group_empty, group-number}
 use Rattle.tagless_lookup.proofs.in_group.Statement.{statement}
 use Rattle.tagless_lookup.proofs.in_group.Tie as tie
 

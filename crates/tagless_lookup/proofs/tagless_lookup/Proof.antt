@@ -5,8 +5,8 @@ use mathlib.Core.Path.{sym, ◌∙◌, ap}
 use Rattle.tagless_image.specs.Lookup.{tagless_lookup_of}
 use Rattle.opening.specs.Answer.{opened_outcome}
 use Rattle.tagless_opening.specs.OpeningLaws.{opening-answered}
-use Rattle.tagless_lookup.specs.StepsLaws.{lookup-unopened, lookup-nobody, lookup-opened}
-use Rattle.tagless_lookup.specs.CheckedLaws.{lookup-condition2}
+use Rattle.tagless_lookup.proofs.StepsLaws.{lookup-unopened, lookup-nobody, lookup-opened}
+use Rattle.tagless_lookup.proofs.CheckedLaws.{lookup-condition2}
 use Rattle.tagless_lookup.proofs.tagless_lookup.Statement.{statement}
 use Rattle.tagless_lookup.proofs.tagless_lookup.Tie as tie
 

@@ -4,7 +4,7 @@ use mathlib.Core.Path.{sym, ◌∙◌, ap}
 use Prim.Native.Nat.{◌-◌, ◌≤◌}
 use native.Mathlib.Omega.{arith}
 use lib.ListN.{length, get_or}
-use Rattle.numbering.specs.PartsLaws.{part-bounds}
+use Rattle.numbering.proofs.PartsLaws.{part-bounds}
 use Rattle.tagless_seeds.specs.Answer.{worded_meaning}
 use Rattle.tagless_plan.proofs.Search.{FoundUpTo, found-start, found_turn, found-without, part-few, found-done}
 use Rattle.tagless_plan.proofs.word_groups.Statement.{statement}

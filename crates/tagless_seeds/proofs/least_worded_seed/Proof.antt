@@ -10,14 +10,14 @@ use borrow.Author.Count.{below_more}
 use borrow.Author.Rules.{rules}
 use Rattle.refusal.specs.Limits.{group_max}
 use Rattle.group.specs.Group.{group_under}
-use Rattle.group.specs.GroupLaws.{group-size, group-below}
+use Rattle.group.proofs.GroupLaws.{group-size, group-below}
 use Rattle.candidates.specs.LaidLaws.{group-cells}
 use Rattle.places.specs.Array.{laid_into}
 use Rattle.seeds.specs.Occupancy.{occupancy_of}
 use Rattle.seeds.specs.OccupancyLaws.{ones_none}
 use Rattle.tagless_group.specs.Words.{least_word}
-use Rattle.tagless_group.specs.WordsLaws.{NoWord, least_word-some, least_word-none, no_word-of-none_fills, worded_seed-only}
-use Rattle.tagless_group.specs.WordsLaws.{worded_seed-out}
+use Rattle.tagless_group.proofs.WordsLaws.{NoWord, least_word-some, least_word-none, no_word-of-none_fills, worded_seed-only}
+use Rattle.tagless_group.proofs.WordsLaws.{worded_seed-out}
 use Rattle.equations.specs.Answer.{word_meaning}
 use Rattle.equations.specs.Stated.{Stated}
 use Rattle.tagless_seeds.specs.RowsLaws.{rows-cells, group-stated, least_word-arrays}

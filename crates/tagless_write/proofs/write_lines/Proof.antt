@@ -6,8 +6,8 @@ use Prim.Native.Nat.{ℕ, ◌+◌, ◌-◌, ◌≤◌}
 use native.Mathlib.Omega.{arith}
 use lib.ListN.{length}
 use Rattle.lists.specs.Written.{written_at}
-use Rattle.lists.specs.WrittenLaws.{written-length}
-use Rattle.text.specs.LineLaws.{pair_line-length}
+use Rattle.lists.proofs.WrittenLaws.{written-length}
+use Rattle.text.proofs.LineLaws.{pair_line-length}
 use Rattle.tagless_image.specs.Sheet.{TaglessSheet, header_line_of, tagless_length}
 use Rattle.tagless_write.specs.Stated.{stated_sheet}
 use Rattle.tagless_write.proofs.Lines.{LinesWritten, lines_start, lines-kept, lines-turn, lines-done}

@@ -5,8 +5,8 @@ use native.Mathlib.Omega.{arith}
 use borrow.Author.Rules.{rules}
 use borrow.Author.Tests.{lt-ltb, le-ltb}
 use Rattle.lists.specs.First.{first}
-use Rattle.lists.specs.FirstLaws.{is_some-of-some, is_some-of-none}
-use Rattle.lists.specs.SearchLaws.{Searched, searched-start, searched-turn, searched-found, searched-done}
+use Rattle.lists.proofs.FirstLaws.{is_some-of-some, is_some-of-none}
+use Rattle.lists.proofs.SearchLaws.{Searched, searched-start, searched-turn, searched-found, searched-done}
 use Rattle.tally.specs.Tally.{more}
 use Rattle.tally.proofs.has_more_edges.Statement.{statement}
 use Rattle.tally.proofs.has_more_edges.Tie as tie

@@ -5,7 +5,7 @@ use mathlib.Core.Logic.{⊎_elim}
 use native.Mathlib.Omega.{arith}
 use borrow.Author.Rules.{rules}
 use Rattle.filling.specs.Weight.{key_weight, total}
-use Rattle.filling.specs.WeightLaws.{total_first, total-second, weight-most, key_weight-most}
+use Rattle.filling.proofs.WeightLaws.{total_first, total-second, weight-most, key_weight-most}
 use Rattle.bits.specs.WordBits.{choice_in}
 use Rattle.bits.specs.WordBitsLaws.{choice_number-one, choice_number-zero}
 use Rattle.weight.proofs.weight_of.Statement.{statement}

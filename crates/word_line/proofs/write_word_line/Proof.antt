@@ -6,11 +6,11 @@ use mathlib.Core.List.{◌++◌}
 use Prim.Native.Nat.{◌+◌}
 use native.Mathlib.Omega.{arith}
 use lib.ListN.{length, length-append}
-use Rattle.lists.specs.WrittenLaws.{written_next}
+use Rattle.lists.proofs.WrittenLaws.{written_next}
 use Rattle.text.specs.Figure.{figure}
-use Rattle.text.specs.FigureLaws.{figure-length}
+use Rattle.text.proofs.FigureLaws.{figure-length}
 use Rattle.text.specs.Line.{tag_line}
-use Rattle.word_line.specs.WordLineLaws.{word_line-parts}
+use Rattle.word_line.proofs.WordLineLaws.{word_line-parts}
 use Rattle.word_line.proofs.write_word_line.Statement.{statement}
 use Rattle.word_line.proofs.write_word_line.Tie as tie
 

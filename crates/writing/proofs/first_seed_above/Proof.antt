@@ -6,7 +6,7 @@ use native.Mathlib.Omega.{arith}
 use borrow.Author.Tests.{lt-ltb, le-ltb}
 use Rattle.refusal.specs.Limits.{seed_max}
 use Rattle.lists.specs.First.{first}
-use Rattle.lists.specs.SearchLaws.{Searched, searched-start, searched-turn, searched-found, searched-done}
+use Rattle.lists.proofs.SearchLaws.{Searched, searched-start, searched-turn, searched-found, searched-done}
 use Rattle.numbering.specs.Plan.{planned_seed}
 use Rattle.numbering.specs.Writing.{seed_above}
 use Rattle.writing.proofs.first_seed_above.Statement.{statement}

@@ -7,7 +7,7 @@ use borrow.Author.Rules.{rules}
 use Rattle.refusal.specs.Limits.{groups_max}
 use Rattle.refusal.specs.Answer.{first_meaning}
 use Rattle.numbering.specs.Writing.{writing_checks}
-use Rattle.numbering.specs.WritingLaws.{writing-refused, writing-kept}
+use Rattle.numbering.proofs.WritingLaws.{writing-refused, writing-kept}
 use Rattle.order.specs.Sorted.{OrderedCells}
 use Rattle.order.specs.SortedLaws.{cells-ordered}
 use Rattle.writing.specs.ArraysLaws.{admitted-groups, admitted-count, passed-10}

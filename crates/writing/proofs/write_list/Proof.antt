@@ -9,14 +9,15 @@ use lib.ListN.{length}
 use borrow.Author.Rules.{rules}
 use borrow.Author.Tests.{lt-ltb, le-ltb}
 use Rattle.refusal.specs.Limits.{groups_max}
-use Rattle.refusal.specs.LimitsLaws.{inside}
+use Rattle.refusal.proofs.LimitsLaws.{inside}
 use Rattle.refusal.specs.Outcome.{Outcome, refused}
 use Rattle.refusal.specs.Answer.{first_meaning}
 use Rattle.refusal.specs.Checks.{Check, Pass}
-use Rattle.refusal.specs.ChecksLaws.{met-true, met-false, met_by, checks_before, passed_on}
+use Rattle.refusal.specs.ChecksBefore.{checks_before}
+use Rattle.refusal.proofs.ChecksLaws.{met-true, met-false, met_by, passed_on}
 use Rattle.numbering.specs.Plan.{planned_groups}
 use Rattle.numbering.specs.Writing.{writing_checks}
-use Rattle.numbering.specs.WritingLaws.{writing-refused}
+use Rattle.numbering.proofs.WritingLaws.{writing-refused}
 use Rattle.writing.specs.PromiseLaws.{Promised, promised, promised-refusal}
 use Rattle.writing.proofs.write_list.Statement.{statement}
 use Rattle.writing.proofs.write_list.Tie as tie

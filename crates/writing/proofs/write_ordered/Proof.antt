@@ -14,7 +14,7 @@ use Rattle.lists.specs.First.{first}
 use Rattle.image.specs.Sheet.{bytes_of, image_length}
 use Rattle.numbering.specs.Plan.{planned_groups}
 use Rattle.numbering.specs.Writing.{unfilled, writing_checks}
-use Rattle.numbering.specs.WritingLaws.{writing-refused, writing-kept, writing-written}
+use Rattle.numbering.proofs.WritingLaws.{writing-refused, writing-kept, writing-written}
 use Rattle.arrange.specs.Arrange.{slots_into}
 use Rattle.arrange.specs.SlotsLaws.{slots_kept}
 use Rattle.write.specs.Stated.{stated_sheet}

@@ -2,10 +2,10 @@
 use mathlib.Core.Path.{◌∙◌}
 use native.Mathlib.Omega.{arith}
 use Rattle.refusal.specs.Limits.{groups_max}
-use Rattle.refusal.specs.LimitsLaws.{outside_below}
-use Rattle.refusal.specs.ChecksLaws.{met-true}
+use Rattle.refusal.proofs.LimitsLaws.{outside_below}
+use Rattle.refusal.proofs.ChecksLaws.{met-true}
 use Rattle.numbering.specs.Planning.{earlier_checks}
-use Rattle.numbering.specs.BuildingLaws.{building-refused, buffer-kept}
+use Rattle.numbering.proofs.BuildingLaws.{building-refused, buffer-kept}
 use borrow.Author.Rules.{rules}
 use Rattle.building.proofs.worked.build_without_groups.Statement.{statement}
 use Rattle.building.proofs.worked.build_without_groups.Tie as tie

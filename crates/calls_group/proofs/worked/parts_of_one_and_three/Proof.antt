@@ -4,7 +4,7 @@ use borrow.Author.Rules.{rules}
 use mathlib.Core.Path.{◌∙◌}
 use Rattle.refusal.specs.Outcome.{answered_by}
 use Rattle.graph.specs.HowMany.{one}
-use Rattle.counting.specs.Examples.{untouched-place}
+use Rattle.counting.proofs.Examples.{untouched-place}
 use Rattle.answer64.specs.Answer64.{answer64}
 use Rattle.calls_group.specs.Parts.{parts_number, parts_answer}
 use Rattle.calls_group.proofs.worked.parts_of_one_and_three.Statement.{statement}

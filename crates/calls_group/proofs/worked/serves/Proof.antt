@@ -1,7 +1,7 @@
 -- `calls_group::worked::serves` meets its contract: by the condition of `count_parts` an odd answer says that some sequence fills.
 -- Assumes nothing.
 use borrow.Author.Rules.{rules}
-use Rattle.calls_group.specs.PartsLaws.{odd-serves}
+use Rattle.calls_group.proofs.PartsLaws.{odd-serves}
 use Rattle.calls_group.proofs.worked.serves.Statement.{statement}
 use Rattle.calls_group.proofs.worked.serves.Tie as tie
 

@@ -7,7 +7,7 @@ use Prim.Native.Nat.{ℕ}
 use native.Mathlib.Omega.{arith}
 use Rattle.refusal.specs.Outcome.{answered_by}
 use Rattle.tagless_opening.specs.OpeningLaws.{open-short}
-use Rattle.tagless_lookup.specs.StepsLaws.{lookup-unopened}
+use Rattle.tagless_lookup.proofs.StepsLaws.{lookup-unopened}
 use Rattle.answer64.specs.Answer64.{answer64}
 use Rattle.calls_tagless.specs.Tagless.{tagless_lookup_answer}
 use Rattle.calls_tagless.proofs.worked.look_up_in_nothing.Statement.{statement}

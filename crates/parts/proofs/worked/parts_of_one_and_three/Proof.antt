@@ -8,7 +8,7 @@ use Prim.Native.Nat.{ℕ}
 use Rattle.refusal.specs.Outcome.{answered}
 use Rattle.graph.specs.Parts.{Parts}
 use Rattle.counting.specs.Counting.{counting_of}
-use Rattle.counting.specs.Examples.{untouched-place}
+use Rattle.counting.proofs.Examples.{untouched-place}
 use Rattle.parts.proofs.worked.parts_of_one_and_three.Statement.{statement}
 use Rattle.parts.proofs.worked.parts_of_one_and_three.Tie as tie
 

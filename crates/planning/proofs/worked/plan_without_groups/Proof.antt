@@ -5,9 +5,9 @@ use mathlib.Core.List.{List}
 use Prim.Native.Nat.{ℕ}
 use Rattle.refusal.specs.Limits.{outside}
 use Rattle.refusal.specs.Outcome.{refused}
-use Rattle.refusal.specs.ChecksLaws.{met-true}
+use Rattle.refusal.proofs.ChecksLaws.{met-true}
 use Rattle.numbering.specs.Planning.{earlier_checks, planning_of}
-use Rattle.numbering.specs.PlanningLaws.{planning-refused, plan-refused}
+use Rattle.numbering.proofs.PlanningLaws.{planning-refused, plan-refused}
 use Rattle.planning.proofs.worked.plan_without_groups.Statement.{statement}
 use Rattle.planning.proofs.worked.plan_without_groups.Tie as tie
 

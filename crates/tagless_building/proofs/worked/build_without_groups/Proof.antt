@@ -3,10 +3,10 @@
 use mathlib.Core.Path.{◌∙◌}
 use native.Mathlib.Omega.{arith}
 use Rattle.refusal.specs.Limits.{groups_max}
-use Rattle.refusal.specs.LimitsLaws.{outside_below}
-use Rattle.refusal.specs.ChecksLaws.{met-true}
+use Rattle.refusal.proofs.LimitsLaws.{outside_below}
+use Rattle.refusal.proofs.ChecksLaws.{met-true}
 use Rattle.tagless.specs.Building.{tagless_building_checks}
-use Rattle.tagless.specs.BuildingLaws.{building-refused, after-refused}
+use Rattle.tagless.proofs.BuildingLaws.{building-refused, after-refused}
 use borrow.Author.Rules.{rules}
 use Rattle.tagless_building.proofs.worked.build_without_groups.Statement.{statement}
 use Rattle.tagless_building.proofs.worked.build_without_groups.Tie as tie

@@ -12,7 +12,7 @@ use Rattle.refusal.specs.Limits.{groups_max, group_max}
 use Rattle.lists.specs.First.{first, met_at, is_some}
 use Rattle.lists.specs.UpTo.{up_to}
 use Rattle.numbering.specs.Parts.{part_start, part_of}
-use Rattle.tagless_group.specs.Worked.{seed-and-word}
+use Rattle.tagless_group.proofs.Worked.{seed-and-word}
 use Rattle.tagless_plan.specs.Words.{unworded, part_word, stored_up_to, Searchable}
 use Rattle.tagless_plan.proofs.worked.word_of_one_and_three.Statement.{statement}
 use Rattle.tagless_plan.proofs.worked.word_of_one_and_three.Tie as tie

@@ -4,7 +4,7 @@ use Prim.Native.Nat.{ℕ}
 use mathlib.Core.Path.{◌≡◌, ◌∙◌, ap}
 use mathlib.Core.Option.{Option, some, some-injective}
 use borrow.Author.Rules.{rules}
-use Rattle.tagless_group.specs.Worked.{seed-and-word}
+use Rattle.tagless_group.proofs.Worked.{seed-and-word}
 use Rattle.tagless_seeds.proofs.worked.word_of_one_and_three.Statement.{statement}
 use Rattle.tagless_seeds.proofs.worked.word_of_one_and_three.Tie as tie
 

@@ -6,9 +6,9 @@ use Prim.Native.Nat.{ℕ}
 use native.Mathlib.Omega.{arith}
 use lib.ListN.{length, take, drop}
 use Rattle.lists.specs.Written.{written_at}
-use Rattle.lists.specs.WrittenLaws.{written-length}
+use Rattle.lists.proofs.WrittenLaws.{written-length}
 use Rattle.word_line.specs.WordLine.{word_line_length, word_line}
-use Rattle.word_line.specs.WordLineLaws.{word_line-length, word-line}
+use Rattle.word_line.proofs.WordLineLaws.{word_line-length, word-line}
 use Rattle.word_line.proofs.Kept.{kept_there, kept-behind, kept-before}
 use Rattle.word_line.proofs.worked.read_between.Statement.{statement}
 use Rattle.word_line.proofs.worked.read_between.Tie as tie

@@ -2,7 +2,7 @@
 use borrow.Author.Rules.{rules}
 use mathlib.Core.Path.{◌∙◌}
 use native.Mathlib.Omega.{arith}
-use Rattle.word_line.specs.WordLineLaws.{word-other-length}
+use Rattle.word_line.proofs.WordLineLaws.{word-other-length}
 use Rattle.word_line.proofs.worked.read_cut_off.Statement.{statement}
 use Rattle.word_line.proofs.worked.read_cut_off.Tie as tie
 

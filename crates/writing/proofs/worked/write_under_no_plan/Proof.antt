@@ -5,10 +5,10 @@ use mathlib.Core.List.{List}
 use Prim.Native.Nat.{ℕ}
 use Rattle.refusal.specs.Limits.{outside}
 use Rattle.refusal.specs.Outcome.{refused}
-use Rattle.refusal.specs.ChecksLaws.{met-true}
+use Rattle.refusal.proofs.ChecksLaws.{met-true}
 use Rattle.numbering.specs.Plan.{planned_groups, no_plan}
 use Rattle.numbering.specs.Writing.{writing_checks, writing_of}
-use Rattle.numbering.specs.WritingLaws.{writing-refused, writing-kept}
+use Rattle.numbering.proofs.WritingLaws.{writing-refused, writing-kept}
 use Rattle.writing.proofs.worked.write_under_no_plan.Statement.{statement}
 use Rattle.writing.proofs.worked.write_under_no_plan.Tie as tie
 

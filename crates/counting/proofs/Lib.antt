@@ -1,0 +1,2 @@
+pub mod ConditionLaws
+pub mod Examples

@@ -1,0 +1,3 @@
+pub mod EquationLaws
+pub mod StatedLaws
+pub mod SystemLaws

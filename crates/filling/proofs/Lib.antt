@@ -1,0 +1,11 @@
+pub mod EvictionLaws
+pub mod FillingLaws
+pub mod InsertionLaws
+pub mod LeastLaws
+pub mod LightestLaws
+pub mod PathLaws
+pub mod SearchLaws
+pub mod TakenLaws
+pub mod TouchedLaws
+pub mod WeightLaws
+pub mod WordLaws

@@ -1,0 +1,10 @@
+pub mod ConnectedLaws
+pub mod Examples
+pub mod GraphTheorem
+pub mod HowManyLaws
+pub mod ListedLaws
+pub mod MergeLaws
+pub mod NumberLaws
+pub mod PartLaws
+pub mod RoomLaws
+pub mod SequencesLaws

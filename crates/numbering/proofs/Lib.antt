@@ -1,0 +1,12 @@
+pub mod BuildingLaws
+pub mod Examples
+pub mod FromTextLaws
+pub mod MembersLaws
+pub mod NumberLaws
+pub mod OneCallLaws
+pub mod PartsLaws
+pub mod PlanLaws
+pub mod PlanningLaws
+pub mod SlotsLaws
+pub mod UnwiredLaws
+pub mod WritingLaws

@@ -1,0 +1,3 @@
+pub mod Condition3Laws
+pub mod FullGroupLaws
+pub mod PlacingLaws

@@ -1,0 +1,4 @@
+pub mod ChecksLaws
+pub mod LimitsLaws
+pub mod OutcomeLaws
+pub mod PlaceLaws

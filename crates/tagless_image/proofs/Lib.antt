@@ -1,0 +1,4 @@
+pub mod CheckedLaws
+pub mod Examples
+pub mod LookupLaws
+pub mod SheetLaws

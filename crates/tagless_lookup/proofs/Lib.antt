@@ -1,0 +1,3 @@
+pub mod CheckedLaws
+pub mod Sentences
+pub mod StepsLaws
