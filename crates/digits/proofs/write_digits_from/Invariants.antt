@@ -1,0 +1,13 @@
+-- What the loops of `digits::write_digits_from` keep true. Assumes nothing.
+use borrow.Author.Rules.{rules}
+use mathlib.Core.Logic.{inl, inr, ⊎_elim}
+use native.Mathlib.Omega.{arith}
+use lib.ListN.{length}
+use Rattle.digits.proofs.Writing.{Writes, zero-most, writes_start, writes-turn, writes_end}
+use Rattle.digits.proofs.write_digits_from.Given as goal
+
+abbrev pub invariant-loop-i : goal.invariant-loop-i
+invariant-loop-i l = Writes l.first (length l.initial.s) l.n l.i l.rest l.s
+
+abbrev pub decreases-loop-i : goal.decreases-loop-i
+decreases-loop-i l = l.i
