@@ -1,0 +1,9 @@
+-- `columns::two_fours` meets its contract: each half of the word is tested as if it were alone. Assumes nothing.
+use borrow.Author.Rules.{rules}
+use mathlib.Core.Path.{◌∙◌}
+use native.Mathlib.Omega.{arith}
+use Rattle.columns.proofs.Spaces.{line-fours}
+use Rattle.columns.proofs.two_fours.Goals as goal
+
+pub returns : goal.returns
+returns c = record { answer = c.read_columns.ensures.answer ∙ line-fours c.args.line.now (λ k. omega (arith, c.type_inv.line k)) c.requires }
