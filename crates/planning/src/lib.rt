@@ -29,7 +29,7 @@ pub fn plan_list(
     plan: &mut [u32; refusal::PLAN_CELLS],
 ) -> PlanAnswer
     ensures answer { plan_outcome result ≡ planning_of tags.now groups limit }
-    ensures plan { plan.new ≡ plan_after tags.now groups limit }
+    ensures plan { plan.new ≡ plan_after tags.now groups limit } // all cells, for any list
     ensures condition3 { PlanningCondition3 tags.now groups limit (plan_outcome result) plan.new }
 {
     *plan = [0; refusal::PLAN_CELLS];

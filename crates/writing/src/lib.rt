@@ -27,7 +27,7 @@ pub enum WriteAnswer {
 // The operation "writing", for any list, any plan and any buffer. A plan is B and then 512 seeds, of which the first B are looked at.
 pub fn write_list(tags: &[u32], plan: &[u32; refusal::PLAN_CELLS], buffer: &mut [u8]) -> WriteAnswer
     ensures answer { write_outcome result ≡ writing_of tags.now plan.now (length buffer.old) }
-    ensures bytes { buffer.new ≡ buffer_written tags.now plan.now buffer.old }
+    ensures bytes { buffer.new ≡ buffer_written tags.now plan.now buffer.old } // all bytes, for any list and plan
     ensures condition3 { WritingCondition3 tags.now plan.now (write_outcome result) buffer.new }
 {
     let groups = plan[0];
