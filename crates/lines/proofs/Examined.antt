@@ -22,7 +22,8 @@ pub examined-start : (bytes : List ℕ) (from end : ℕ) (before : List ℕ) →
 examined-start bytes from end before ascends =
     let none : from - from ≡ 0 = omega arith in
     record {
-      searched = searched-start (no_tag_from from bytes) from end ascends (first_out (no_tag_from from bytes) from (line_before from bytes));
+      searched = searched-start (no_tag_from from bytes) from end ascends
+          (first_out (no_tag_from from bytes) from (line_before from bytes));
       cells_are = sym (rw none (stored-none from bytes before));
     }
 

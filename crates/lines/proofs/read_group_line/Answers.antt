@@ -1,0 +1,21 @@
+-- `lines::read_group_line` meets its contract: the test is that of the definition's range. Assumes nothing.
+use native.Mathlib.Omega.{arith}
+use Rattle.refusal.specs.Limits.{seed_max}
+use borrow.Author.Tests.{le-leb, lt-leb}
+use Rattle.text.specs.Line.{group_line, within}
+use Rattle.lines.proofs.read_group_line.Goals as goal
+
+pub returns-in_default : goal.returns-in_default
+unfolding group_line within
+returns-in_default c = record { answer = rw (← c.read_pair.ensures.answer, c.in_default.is) }
+
+pub returns-then-seed-gt-SEED_MAX : goal.returns-then-seed-gt-SEED_MAX
+unfolding group_line within
+returns-then-seed-gt-SEED_MAX c = record {
+  answer =
+      rw (← c.read_pair.ensures.answer, c.in-Numbers.is, lt-leb c.in-Numbers.seed seed_max (omega arith));
+}
+
+pub returns : goal.returns
+unfolding group_line within
+returns c = record { answer = rw (← c.read_pair.ensures.answer, c.in-Numbers.is, le-leb c.in-Numbers.seed seed_max (omega arith)) }
