@@ -3,24 +3,14 @@ use Prim.Native.Nat.{suc, ◌<◌}
 use mathlib.Core.Path.{◌∙◌}
 use native.Mathlib.Omega.{arith}
 use lib.ListN.{length}
-use borrow.Author.Rules.{rules}
 use Rattle.refusal.specs.Limits.{group_max}
 use Rattle.lists.specs.UpTo.{up_to}
 use Rattle.lists.proofs.UpToLaws.{up_to-at}
-use Rattle.seeds.proofs.size_of.Statement.{statement}
-use Rattle.seeds.proofs.size_of.Tie as tie
+use Rattle.seeds.proofs.size_of.Goals as goal
 
-returns : tie.Need-returns
+pub returns : goal.returns
 unfolding up_to
 returns c =
     let size = length c.args.tags.now in
     let listed : size < suc group_max = omega arith in
-    up_to-at (suc group_max) (λ k. k) 0 size listed ∙ omega arith
-
-pub size-of-spec : {M : Type 1} → statement M
-size-of-spec =
-    tie.close
-    (tie.spec
-    (λ c. search rules)  -- mul-result
-    (λ c. search rules)  -- array-read-result
-    returns)
+    record { answer = up_to-at (suc group_max) (λ k. k) 0 size listed ∙ omega arith }
