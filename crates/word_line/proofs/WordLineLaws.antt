@@ -1,6 +1,7 @@
 -- A group's line reads as its start, its seed and its word exactly where it is their line. Assumes nothing.
 use Rattle.std.specs.Prelude.{◌≡◌, ◌&&◌, List, [], ◌∷◌, ◌++◌, ℕ, ◌^◌, ◌≤◌, ◌<◌, leb, ltb, length, take, drop}
-use Rattle.std.proofs.Common.{sym, ◌∙◌, ap, append_assoc, arith, lit<, length-append, take-append-drop, take_at, drop_at, take-add, le-leb, leb-true, lt-ltb, ltb-true}
+use Rattle.std.proofs.Common.{sym, ◌∙◌, ap, append_assoc, arith, lit<, length-append, take-append-drop, take_at, drop_at, take-add, le-leb}
+use Rattle.std.proofs.Common.{leb-true, lt-ltb, ltb-true}
 use Rattle.std.proofs.Math.Option.{Option, none, some, some-injective}
 use Rattle.lists.proofs.BoolLaws.{both-of-and}
 use Rattle.lists.proofs.FirstLaws.{none-of-never}

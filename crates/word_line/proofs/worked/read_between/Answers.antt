@@ -1,5 +1,4 @@
 -- `word_line::worked::read_between` meets its contract: by the two promises the line read is the line written. Assumes nothing.
-use borrow.Author.Rules.{rules}
 use mathlib.Core.Path.{◌≡◌, refl, ◌∙◌}
 use mathlib.Core.List.{List}
 use Prim.Native.Nat.{ℕ}
@@ -10,8 +9,7 @@ use Rattle.lists.proofs.WrittenLaws.{written-length}
 use Rattle.word_line.specs.WordLine.{word_line_length, word_line}
 use Rattle.word_line.proofs.WordLineLaws.{word_line-length, word-line}
 use Rattle.word_line.proofs.Kept.{kept_there, kept-behind, kept-before}
-use Rattle.word_line.proofs.worked.read_between.Statement.{statement}
-use Rattle.word_line.proofs.worked.read_between.Tie as tie
+use Rattle.word_line.proofs.worked.read_between.Goals as goal
 
 -- The middle one of three lines is there after the first and the last were written.
 between : (start seed word : ℕ) (text : List ℕ) {first second third : List ℕ} → length text ≡ 63
@@ -35,28 +33,12 @@ between start seed word text {first} {second} {third} long a b c =
     )
     (kept_there 21 line text size (omega arith))
 
-returns : tie.Need-returns
+pub returns : goal.returns
 returns c =
-    let third = c.before.before.before in
-    let second = third.before.before.before in
-    let first = second.before.before.before in
-    let start = first.before.before in
-    let args = start.args in
-    c.read-word-line.ensures
-    ∙ rw (between args.start args.seed args.word _ refl first.write-word-line.ensures second.write-word-line2.ensures
-    third.write-word-line3.ensures)
-    (word-line args.start args.seed args.word start.requires.0 start.requires.1 (omega arith))
-
-pub read-between-spec : {M : Type 1} → statement M
-read-between-spec =
-    tie.close
-    (tie.spec
-    (λ c. search rules)  -- slice-aggregate-write-word-line
-    (λ c κs. search rules)  -- write-word-line-requires
-    (λ c. search rules)  -- slice-aggregate-write-word-line-2
-    (λ c κs. search rules)  -- write-word-line-requires-2
-    (λ c. search rules)  -- slice-aggregate-write-word-line-3
-    (λ c κs. search rules)  -- write-word-line-requires-3
-    (λ c. search rules)  -- slice-aggregate-read-word-line
-    (λ c κs. search rules)  -- read-word-line-requires
-    returns)
+    let args = c.args in
+    record {
+      answer = c.read_word_line.ensures.answer
+          ∙ rw (between args.start args.seed args.word _ refl c.write_word_line.ensures.bytes c.write_word_line-2.ensures.bytes
+          c.write_word_line-3.ensures.bytes)
+          (word-line args.start args.seed args.word c.requires.0 c.requires.1 (omega arith));
+    }
