@@ -7,7 +7,7 @@ use Rattle.std.proofs.Math.Option.{Option, none, some, get_or}
 use Rattle.std.proofs.Math.Dec.{leb, ltb}
 use Rattle.lists.specs.First.{first, is_some}
 use Rattle.lists.proofs.FirstLaws.{first_some, first_cong}
-use Rattle.image.specs.View.{View, count_in, groups_in, start_in, seed_in, end_in, slot_in, faulty, candidate_in}
+use Rattle.image.specs.View.{View, count_in, groups_in, start_in, end_in, slot_in, faulty, candidate_in}
 use Rattle.image.specs.Checking.{group_of_slot, holds_unwired, misplaced, repeated}
 use Rattle.image.proofs.FaultLaws.{end-next, end-last}
 
