@@ -56,7 +56,8 @@ higher c =
     (lowest-xor own (pivot-lowest at.invariant.sound bit c.if-pivot-eq0.false))
 
 pub loop-left-smaller : goal.loop-left-smaller
-loop-left-smaller c = omega (arith, higher (goal.at.loop-left-smaller c).Else-pivot-eq0, bit_below (goal.at.loop-left-smaller c).In-loop-left)
+loop-left-smaller c = omega
+    (arith, higher (goal.at.loop-left-smaller c).Else-pivot-eq0, bit_below (goal.at.loop-left-smaller c).In-loop-left)
 
 pub loop-left-preserved : goal.loop-left-preserved
 loop-left-preserved c =

@@ -36,7 +36,8 @@ module _ {table : List ℕ} {word bit : ℕ} (t : Table 32 table) (down : Settle
       let own : word / 2 ^ j * 2 ^ j ≡ word = omega (arith, split word j, next.clear) in
       rw own at (xor_shifted (word / 2 ^ j) j (2 ^ (bit - 1)) (pow-lt (omega arith)))
 
-  set-bit : parity (get_or table (bit - 1) 0) word ≡ 1 → SettledFrom table (bit_xor word (1 * 2 ^ (bit - 1) % 18446744073709551616)) (bit - 1)
+  set-bit : parity (get_or table (bit - 1) 0) word ≡ 1 → SettledFrom table (bit_xor word (1 * 2 ^ (bit - 1) % 18446744073709551616))
+      (bit - 1)
   set-bit odd = record {
     upto = omega (arith, down.upto);
     settled = rw (one_shifted (bit - 1) inside, set-xor) (settled-set t next inside odd);
@@ -58,7 +59,8 @@ loop-bit-preserved c =
     let word = c.loop-bit.word in
     leave-bit c.requires.0 c.loop-bit.invariant c.loop-bit-test.true
     (elim c.else-pivot-ne0.branch [
-      | else-pivot-ne0-via-then-pivot-ne0+else-parity-eq1 w ↦ omega (arith, parity-below pivot word, w.parity.ensures.answer, w.if-parity-eq1.false)
+      | else-pivot-ne0-via-then-pivot-ne0+else-parity-eq1 w ↦ omega
+          (arith, parity-below pivot word, w.parity.ensures.answer, w.if-parity-eq1.false)
       | else-pivot-ne0-via-else-pivot-ne0 w ↦ rw w.if-pivot-ne0.false (parity-zero word)
     ])
 
