@@ -1,0 +1,20 @@
+-- What the loops of `equations::least_word` keep true. Assumes nothing.
+use Prim.Native.Nat.{ℕ, ◌-◌, ◌≤◌}
+use mathlib.Core.Path.{◌≡◌}
+use mathlib.Core.List.{List}
+use lib.ListN.{get_or, take}
+use Rattle.places.specs.Array.{keys_of}
+use Rattle.equations.proofs.SystemLaws.{System}
+use Rattle.equations.proofs.least_word.Given as goal
+
+-- The table says the equations of the first places, and none of them is the constant alone.
+pub record TableAfter (n : ℕ) (places rows table : List ℕ) (place : ℕ) : Type 0 where
+  pub upto : place ≤ n
+  pub system : System 32 (keys_of n places) (take n rows) place table
+  pub free : get_or table 32 0 ≡ 0
+
+abbrev pub invariant-loop-place : goal.invariant-loop-place
+invariant-loop-place l = TableAfter l.n l.places l.rows l.table l.place
+
+abbrev pub decreases-loop-place : goal.decreases-loop-place
+decreases-loop-place l = l.n - l.place
