@@ -2,28 +2,29 @@
 #![tactic(auto)]
 
 use list::ListAnswer;
+use std::io;
 
-fn read(text: &[u8], cells: &mut [u32]) {
+fn read(rt: &impl Print, text: &[u8], cells: &mut [u32]) -> io::Result<()> {
     match list::read_list(text, cells) {
         ListAnswer::Listed(_, _, count) => {
-            report::words(b"count ");
-            report::number(count as u64);
+            report::words(rt, b"count ")?;
+            report::number(rt, count as u64)?;
             if 4095 < cells.len() {
-                report::words(b", last tag ");
-                report::number(cells[4095] as u64);
+                report::words(rt, b", last tag ")?;
+                report::number(rt, cells[4095] as u64)?;
             }
         }
-        ListAnswer::Refused(refusal) => report::refusal(refusal),
+        ListAnswer::Refused(refusal) => report::refusal(rt, refusal)?,
     }
-    report::words(b"\n");
+    report::words(rt, b"\n")
 }
 
-fn main() {
+fn main(rt: HostRuntime) -> io::Result<()> {
     let mut cells: [u32; 4097] = [7; 4097];
     let mut longest = [b' '; 45067];
     report::number_lines(&mut longest);
-    read(&longest, &mut cells);
+    read(&rt, &longest, &mut cells)?;
     let mut longer = [b' '; 45078];
     report::number_lines(&mut longer);
-    read(&longer, &mut cells);
+    read(&rt, &longer, &mut cells)
 }

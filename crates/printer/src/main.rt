@@ -1,20 +1,38 @@
 // The index printer: reads one list text from standard input, and writes its image to standard output, or one line with the refusal.
 #![tactic(auto)]
 
-use libc::{STDIN_FILENO, STDOUT_FILENO};
+ghost use Rattle.std.specs.Prelude.{IfOk, length, ◌≤◌};
 
-fn write_first(out: &[u8], count: usize) {
-    if out.len() < count {
-        return;
+use std::io;
+use std::io::Read;
+
+// Reads until the buffer is full or the input ends, and returns how many bytes it put at the buffer's start.
+fn read_full(input: &mut impl Read, buffer: &mut [u8]) -> io::Result<usize>
+    ensures { IfOk result (λ count. count ≤ length buffer.new) }
+{
+    let mut done = 0;
+    while done < buffer.len() {
+        let count = input.read(&mut buffer[done..])?;
+        if count == 0 {
+            break;
+        }
+        done += count;
     }
-    io::write_all(STDOUT_FILENO, &out[..count]);
+    Ok(done)
 }
 
-fn main() {
+fn write_first(rt: &impl Print, out: &[u8], count: usize) -> io::Result<()> {
+    if out.len() < count {
+        return Ok(());
+    }
+    rt.write_all(&out[..count])
+}
+
+fn main(rt: HostRuntime) -> io::Result<()> {
     // One byte more than a list text may have: enough to know that an input is longer.
     let mut text = [0u8; refusal::TEXT_MAX + 1];
     let mut out = [0u8; printing::LONGEST_IMAGE];
-    let length = io::read_full(STDIN_FILENO, &mut text);
+    let length = read_full(&mut rt.reader(), &mut text)?;
     let count = printing::print_index(&text[..length], &mut out);
-    write_first(&out, count);
+    write_first(&rt, &out, count)
 }

@@ -1,35 +1,37 @@
 // What the programs that run cases share: words, numbers and refusals printed on standard output, and a long list text. What is
-// printed is held to a stored output and not proved, so nothing here has a promise.
+// printed is held to a stored output and not proved, so nothing here has a promise. What prints takes the runtime, and returns the
+// error of a write that fails.
 #![tactic(auto)]
 
-use libc::STDOUT_FILENO;
 use refusal::Refusal;
+use std::io;
 use text::LINE_LENGTH;
 
-pub fn words(text: &[u8]) {
-    io::write_all(STDOUT_FILENO, text);
+pub fn words(rt: &impl Print, text: &[u8]) -> io::Result<()> {
+    rt.write_all(text)
 }
 
-pub fn number(n: u64) {
-    io::print_decimal(STDOUT_FILENO, n);
+pub fn number(rt: &impl Print, n: u64) -> io::Result<()> {
+    rt.print(n)
 }
 
-pub fn refusal(r: Refusal) {
-    words(b"refused ");
+pub fn refusal(rt: &impl Print, r: Refusal) -> io::Result<()> {
+    words(rt, b"refused ")?;
     let reason = r.reason;
-    number(refusal::reason_number(reason) as u64);
-    words(b" at ");
-    number(r.place as u64);
+    number(rt, refusal::reason_number(reason) as u64)?;
+    words(rt, b" at ")?;
+    number(rt, r.place as u64)
 }
 
 // Each number, with a space before it.
-pub fn numbers(cells: &[u32]) {
+pub fn numbers(rt: &impl Print, cells: &[u32]) -> io::Result<()> {
     let mut i = 0;
     while i < cells.len() {
-        words(b" ");
-        number(cells[i] as u64);
+        words(rt, b" ")?;
+        number(rt, cells[i] as u64)?;
         i += 1;
     }
+    Ok(())
 }
 
 // Writes a list text over the whole buffer: B = 2, L = 9, and the tags 0, 1, 2, …, one a line, as many lines as there is room for.
