@@ -6,7 +6,6 @@ use mathlib.Core.Bool.{Bool, true, false}
 use mathlib.Core.List.{List}
 use mathlib.Core.Option.{none, some, map}
 use native.Mathlib.Omega.{arith}
-use borrow.Author.Rules.{rules}
 use lib.ListN.{replicate, set}
 use Rattle.refusal.specs.Limits.{group_max}
 use Rattle.lists.specs.UpTo.{up_to}
@@ -17,8 +16,7 @@ use Rattle.filling.specs.Order.{ones}
 use Rattle.filling.specs.Taken.{fewer_ones, taken_from, sequence_taken}
 use Rattle.filling.specs.Word.{choice_number, word_of}
 use Rattle.places.specs.Array.{entry_of, Candidates, keys_of}
-use Rattle.sequence.proofs.worked.word_of_two_fillings.Statement.{statement}
-use Rattle.sequence.proofs.worked.word_of_two_fillings.Tie as tie
+use Rattle.sequence.proofs.worked.word_of_two_fillings.Goals as goal
 
 -- The array of the two keys.
 abbrev places : List ℕ
@@ -45,30 +43,15 @@ same e = cc
 never : {x : ℕ} → none ≡ some x → ⊥
 never e = let z : ◌≡◌ {A = ℕ} 0 1 = cc in omega arith
 
-choices-taken-requires : tie.Need-choices-taken-requires
-choices-taken-requires c κs = (omega arith, candidates)
+pub choices_taken-requires : goal.choices_taken-requires
+choices_taken-requires c = (omega arith, candidates)
 
-returns : tie.Need-returns
-returns c =
-    let promised = rw c.before.word.given.1 at c.before.before.before.choices-taken.ensures in
-    same (promised ∙ computed)
+pub returns-in-Word : goal.returns-in-Word
+returns-in-Word c =
+    let promised = rw c.in-Word.is at c.choices_taken.ensures.answer in
+    record { answer = same (promised ∙ computed) }
 
-returns-2 : tie.Need-returns-2
-returns-2 c =
-    let promised = rw c.enum_told.given.1 at c.before.before.choices-taken.ensures in
-    absurd (never (promised ∙ computed))
-
-pub word-of-two-fillings-spec : {M : Type 1} → statement M
-word-of-two-fillings-spec =
-    tie.close
-    (tie.spec
-    (λ c. search rules)  -- array-write-places
-    (λ c. search rules)  -- add-places
-    (λ c. search rules)  -- mul-places
-    (λ c. search rules)  -- array-write-places-2
-    (λ c. search rules)  -- slice-aggregate-choices-taken
-    choices-taken-requires
-    (λ c. search rules)  -- enum-known-word
-    (λ c. search rules)  -- enum_told
-    returns
-    returns-2)
+pub returns-in-Nothing : goal.returns-in-Nothing
+returns-in-Nothing c =
+    let promised = rw c.in-Nothing.is at c.choices_taken.ensures.answer in
+    record { answer = absurd (never (promised ∙ computed)) }

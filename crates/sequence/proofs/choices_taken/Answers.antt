@@ -1,0 +1,43 @@
+-- `sequence::choices_taken` meets its contract: the word is that of the sequence taken for the first k keys, and the cells hold its
+-- occupants. Assumes nothing.
+use mathlib.Core.Path.{◌≡◌}
+use native.Mathlib.Omega.{arith}
+use Rattle.lists.specs.UpTo.{up_to}
+use Rattle.filling.proofs.TakenLaws.{sequence-empty}
+use Rattle.filling.specs.Word.{word_of}
+use Rattle.places.specs.Array.{keys_of}
+use Rattle.places.proofs.ArrayLaws.{candidates-fewer}
+use Rattle.insertion.specs.TakenWordLaws.{nothing-more}
+use Rattle.insertion.specs.Occupants.{occupants_after}
+use Rattle.insertion.specs.OccupantsLaws.{occupants-none}
+use Rattle.sequence.proofs.choices_taken.Goals as goal
+
+pub loop-k-init : goal.loop-k-init
+unfolding up_to keys_of word_of
+loop-k-init c = (omega arith, rw sequence-empty, occupants-none _ _)
+
+pub with_key-requires : goal.with_key-requires
+with_key-requires c =
+    let inv = c.loop-k.invariant in
+    let pre = c.requires in
+    record { k_lt_group_max = (omega arith, candidates-fewer _ (omega arith) pre.1, inv.1); occupants_value = inv.2 }
+
+pub returns-in_default : goal.returns-in_default
+returns-in_default c =
+    let nothing = rw c.in_default.is at c.with_key.ensures.answer in
+    let a = c.args in
+    record { answer = cc (nothing-more a.places.now _ a.count (omega arith) nothing) }
+
+pub loop-k-preserved : goal.loop-k-preserved
+unfolding occupants_after
+loop-k-preserved c =
+    let next = rw c.in-Word.is at c.with_key.ensures.answer in
+    let cells = rw c.in-Word.is at c.with_key.ensures.cells in
+    let lt = c.loop-k-test.true in
+    (omega arith, next, cells)
+
+pub returns : goal.returns
+returns c =
+    let at = c.loop-k in
+    let all : at.k ≡ c.args.count = omega arith in
+    record { answer = rw all at at.invariant.1 }
