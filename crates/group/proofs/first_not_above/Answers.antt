@@ -23,4 +23,5 @@ loop-i-preserved c =
     (omega arith, below_more _ _ c.loop-i.invariant.1 (above c.args.tags.now _ c.loop-i.invariant.0 c.if-tags-i.false))
 
 pub returns : goal.returns
-returns c = record { answer = sym (first_out (not_above c.args.tags.now) _ (λ j lt. c.loop-i.invariant.1 j (omega (arith, c.loop-i-test.false)))) }
+returns c =
+    record { answer = sym (first_out (not_above c.args.tags.now) _ (λ j lt. c.loop-i.invariant.1 j (omega (arith, c.loop-i-test.false)))) }
