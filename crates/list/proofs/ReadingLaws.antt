@@ -107,7 +107,10 @@ pub read_as : (text : List ℕ) (cells : ℕ) {head : ListHead}
 unfolding reading_of reading_checks listed_in head_of
 read_as text cells {head} e =
     let (listed, outcome, same) = answered-of-by head_of (reading_of text cells) e in
-    let ((short, (well, (many, (narrow, end)))), answer) = in_order-answered (reading_checks text cells) (answered (listed_in text)) outcome in
+    let (
+      (short, (well, (many, (narrow, end)))),
+      answer,
+    ) = in_order-answered (reading_checks text cells) (answered (listed_in text)) outcome in
     let is : listed_in text ≡ listed = cc in
     record {
       count-is = ap (λ (h : ListHead). h.count) (sym same ∙ ap head_of (sym is)) ∙ tags_from-length (tag_count text) 1 text;
