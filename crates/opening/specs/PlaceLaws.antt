@@ -11,7 +11,8 @@ use Rattle.refusal.proofs.ChecksLaws.{◌then◌, passed, in_order-pass, in_orde
 use Rattle.hash.specs.Formula.{group_of}
 use Rattle.hash.proofs.FormulaLaws.{group-below, place-below}
 use Rattle.image.specs.View.{View, view_of, count_in, groups_in, start_in, end_in, seed_in, slot_line_in, slot_in, faulty, candidate_in}
-use Rattle.image.specs.Checking.{opening_checks, malformed_in, holds_unwired, misplaced, repeated, number_checks, checking_checks, checking_of}
+use Rattle.image.specs.Checking.{opening_checks, malformed_in, holds_unwired, misplaced, repeated, number_checks, checking_checks}
+use Rattle.image.specs.Checking.{checking_of}
 use Rattle.image.proofs.FaultLaws.{fair-of-faulty}
 use Rattle.image.specs.Lookup.{Found, number, unknown, group_checks, lookup_checks, at_slot, lookup_in_group, lookup_of}
 use Rattle.opening.specs.Opening.{opening_of, Opens}
