@@ -43,7 +43,12 @@ within : (c : Laid) (i : ℕ) → i < length (tags c) → (choice : Bool) → en
 within c = group-within (tags c) (seed c) _ (omega arith) (omega arith) (laid c)
 
 pub loop-i-init : goal.loop-i-init
-loop-i-init c = (omega arith, sym (half-none false (keys (goal.at.loop-i-init c).After-candidate_places)), sym (half-none true (keys (goal.at.loop-i-init c).After-candidate_places)))
+loop-i-init c = (
+  omega arith,
+  sym (half-none false (keys (goal.at.loop-i-init c).After-candidate_places)),
+  sym
+      (half-none true (keys (goal.at.loop-i-init c).After-candidate_places)),
+)
 
 pub with_bit-first-requires : goal.with_bit-first-requires
 unfolding entry_of
@@ -60,13 +65,24 @@ unfolding entry_of
 loop-i-preserved c =
     let i = c.loop-i.i in
     let place = place-of (goal.at.loop-i-preserved c).After-candidate_places i (omega arith) in
-    let inside : i < length (keys (goal.at.loop-i-preserved c).After-candidate_places) = omega (arith, group-size (tags (goal.at.loop-i-preserved c).After-candidate_places) (seed (goal.at.loop-i-preserved c).After-candidate_places)) in (
+    let inside : i < length (keys (goal.at.loop-i-preserved c).After-candidate_places) = omega (
+      arith,
+      group-size
+          (tags (goal.at.loop-i-preserved c).After-candidate_places) (seed (goal.at.loop-i-preserved c).After-candidate_places),
+    ) in (
       omega arith,
-      rw (c.with_bit-first.ensures.answer, c.loop-i.invariant.1, place false) (sym (half-more false (keys (goal.at.loop-i-preserved c).After-candidate_places) i inside)),
-      rw (c.with_bit-second.ensures.answer, c.loop-i.invariant.2, place true) (sym (half-more true (keys (goal.at.loop-i-preserved c).After-candidate_places) i inside)),
+      rw (c.with_bit-first.ensures.answer, c.loop-i.invariant.1, place false)
+          (sym (half-more false (keys (goal.at.loop-i-preserved c).After-candidate_places) i inside)),
+      rw (c.with_bit-second.ensures.answer, c.loop-i.invariant.2, place true)
+          (sym (half-more true (keys (goal.at.loop-i-preserved c).After-candidate_places) i inside)),
     )
 
 pub returns : goal.returns
 returns c =
-    let all = take_all c.loop-i.i (keys (goal.at.returns c).After-candidate_places) (omega (arith, group-size (tags (goal.at.returns c).After-candidate_places) (seed (goal.at.returns c).After-candidate_places))) in
-    record { answer = rw (c.loop-i.invariant.1, c.loop-i.invariant.2, all) (halves-occupied (keys (goal.at.returns c).After-candidate_places)); cells = laid (goal.at.returns c).After-candidate_places }
+    let all = take_all c.loop-i.i (keys (goal.at.returns c).After-candidate_places)
+    (omega (arith, group-size (tags (goal.at.returns c).After-candidate_places) (seed (goal.at.returns c).After-candidate_places))) in
+    record {
+      answer = rw (c.loop-i.invariant.1, c.loop-i.invariant.2, all)
+          (halves-occupied (keys (goal.at.returns c).After-candidate_places));
+      cells = laid (goal.at.returns c).After-candidate_places;
+    }

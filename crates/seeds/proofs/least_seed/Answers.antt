@@ -75,10 +75,12 @@ pub bounds-others-place-in-evict : goal.bounds-others-place-in-evict
 bounds-others-place-in-evict c = omega (arith, place-below (goal.at.bounds-others-place-in-evict c).Else-seated-n)
 
 pub overflow_cast-place-then-seated-n-2 : goal.overflow_cast-place-then-seated-n-2
-overflow_cast-place-then-seated-n-2 c = record { fits = omega (arith, next-below (goal.at.overflow_cast-place-then-seated-n-2 c).Then-seated-n-2) }
+overflow_cast-place-then-seated-n-2 c =
+    record { fits = omega (arith, next-below (goal.at.overflow_cast-place-then-seated-n-2 c).Then-seated-n-2) }
 
 pub offset_bounds-others-place-then-seated-n-2 : goal.offset_bounds-others-place-then-seated-n-2
-offset_bounds-others-place-then-seated-n-2 c = omega (arith, next-below (goal.at.offset_bounds-others-place-then-seated-n-2 c).Then-seated-n-2)
+offset_bounds-others-place-then-seated-n-2 c =
+    omega (arith, next-below (goal.at.offset_bounds-others-place-then-seated-n-2 c).Then-seated-n-2)
 
 pub bounds-others-place-then-seated-n-2 : goal.bounds-others-place-then-seated-n-2
 bounds-others-place-then-seated-n-2 c = omega (arith, next-below (goal.at.bounds-others-place-then-seated-n-2 c).Then-seated-n-2)
@@ -107,4 +109,10 @@ evict-preserved c =
 
 pub returns : goal.returns
 unfolding tried
-returns c = let (cs, fills) = turn-all c.evict.invariant (c.if-seated-n.true ∙ c.size_of-n.ensures.answer) in record { answer = passed-found (omega arith) c.seeds.invariant (omega arith) cs fills; cells = laid_next (omega arith) c.seeds.invariant c.lay_out-occupied.ensures.cells }
+returns c =
+    let (cs, fills) = turn-all c.evict.invariant (c.if-seated-n.true ∙ c.size_of-n.ensures.answer)
+    in record {
+      answer = passed-found (omega arith) c.seeds.invariant (omega arith) cs fills;
+      cells = laid_next (omega arith)
+          c.seeds.invariant c.lay_out-occupied.ensures.cells;
+    }
