@@ -38,7 +38,8 @@ pub bounds-occupants-first : goal.bounds-occupants-first
 bounds-occupants-first c = omega (arith, first (goal.at.bounds-occupants-first c).Start)
 
 pub offset_bounds-occupants-first-then-occupant-eq0 : goal.offset_bounds-occupants-first-then-occupant-eq0
-offset_bounds-occupants-first-then-occupant-eq0 c = record { fits = omega (arith, first (goal.at.offset_bounds-occupants-first-then-occupant-eq0 c).Start) }
+offset_bounds-occupants-first-then-occupant-eq0 c =
+    record { fits = omega (arith, first (goal.at.offset_bounds-occupants-first-then-occupant-eq0 c).Start) }
 
 pub bounds-occupants-first-then-occupant-eq0 : goal.bounds-occupants-first-then-occupant-eq0
 bounds-occupants-first-then-occupant-eq0 c = omega (arith, first (goal.at.bounds-occupants-first-then-occupant-eq0 c).Start)
@@ -48,7 +49,11 @@ unfolding occupants_after entry_of with_choice
 returns-then-occupant-eq0 c =
     let asked = c.requires.k_lt_group_max in
     let held = c.requires.occupants_value in
-    record { answer = first-free _ _ _ asked held c.if-occupant-eq0.true; cells = free-occupied _ _ _ asked held false c.if-occupant-eq0.true }
+    record {
+      answer = first-free _ _ _ asked held c.if-occupant-eq0.true;
+      cells = free-occupied _ _ _ asked held false
+          c.if-occupant-eq0.true;
+    }
 
 -- It is a key before k.
 occupant-below : (c : Else-occupant-eq0) → occupant c < c.args.k
@@ -59,7 +64,8 @@ pub choice_at-requires : goal.choice_at-requires
 choice_at-requires c = omega (arith, occupant-below (goal.at.choice_at-requires c).Else-occupant-eq0)
 
 pub overflow_cast-second-then-choice_at-eq0 : goal.overflow_cast-second-then-choice_at-eq0
-overflow_cast-second-then-choice_at-eq0 c = record { fits = omega (arith, second (goal.at.overflow_cast-second-then-choice_at-eq0 c).Start) }
+overflow_cast-second-then-choice_at-eq0 c =
+    record { fits = omega (arith, second (goal.at.overflow_cast-second-then-choice_at-eq0 c).Start) }
 
 pub offset_bounds-occupants-second : goal.offset_bounds-occupants-second
 offset_bounds-occupants-second c = record { fits = omega (arith, second (goal.at.offset_bounds-occupants-second c).Start) }
@@ -68,10 +74,12 @@ pub bounds-occupants-second : goal.bounds-occupants-second
 bounds-occupants-second c = omega (arith, second (goal.at.bounds-occupants-second c).Start)
 
 pub offset_bounds-occupants-second-then-occupants-second-eq0 : goal.offset_bounds-occupants-second-then-occupants-second-eq0
-offset_bounds-occupants-second-then-occupants-second-eq0 c = record { fits = omega (arith, second (goal.at.offset_bounds-occupants-second-then-occupants-second-eq0 c).Start) }
+offset_bounds-occupants-second-then-occupants-second-eq0 c =
+    record { fits = omega (arith, second (goal.at.offset_bounds-occupants-second-then-occupants-second-eq0 c).Start) }
 
 pub bounds-occupants-second-then-occupants-second-eq0 : goal.bounds-occupants-second-then-occupants-second-eq0
-bounds-occupants-second-then-occupants-second-eq0 c = omega (arith, second (goal.at.bounds-occupants-second-then-occupants-second-eq0 c).Start)
+bounds-occupants-second-then-occupants-second-eq0 c =
+    omega (arith, second (goal.at.bounds-occupants-second-then-occupants-second-eq0 c).Start)
 
 pub returns-then-occupants-second-eq0 : goal.returns-then-occupants-second-eq0
 unfolding occupants_after entry_of with_choice
@@ -79,7 +87,8 @@ returns-then-occupants-second-eq0 c =
     let asked = c.requires.k_lt_group_max in
     let held = c.requires.occupants_value in
     let o = occupant (goal.at.returns-then-occupants-second-eq0 c).Else-occupant-eq0 in
-    let at_first = choice_number-zero (choice_in c.args.word o) (λ e. omega (arith, e, c.choice_at.ensures.answer, c.if-choice_at-eq0.true)) in
+    let at_first = choice_number-zero (choice_in c.args.word o)
+    (λ e. omega (arith, e, c.choice_at.ensures.answer, c.if-choice_at-eq0.true)) in
     rw c.with_bit.ensures.answer record {
       answer = second-free _ _ _ asked held o (omega (arith, c.if-occupant-eq0.false)) at_first c.if-occupants-second-eq0.true;
       cells = free-occupied _ _ _ asked held true c.if-occupants-second-eq0.true;
