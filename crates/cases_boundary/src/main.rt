@@ -53,7 +53,11 @@ fn strict(rt: &impl Print, name: &[u8], image: &[u8]) -> io::Result<()> {
 // Builds an index without tags from a text into a buffer of 77 bytes, and prints the answer and the buffer.
 fn tagless_build(rt: &impl Print, name: &[u8], text: &[u8]) -> io::Result<()> {
     let mut image = [b'.'; 77];
-    answer(rt, name, tag_index::tag_index_tagless_build(text, &mut image))?;
+    answer(
+        rt,
+        name,
+        tag_index::tag_index_tagless_build(text, &mut image),
+    )?;
     report::words(rt, &image)?;
     report::words(rt, b"\n")
 }
@@ -137,7 +141,12 @@ fn groups_refused(rt: &impl Print) -> io::Result<()> {
     place(rt, b"tag 5 twice, L = 65537", &[5, 5], 65537)?;
     place(rt, b"tag 0 twice", &[0, 0], 1)?;
     place(rt, b"tag 0", &[0], 1)?;
-    place(rt, b"tag 0 and another, a seed above 0 with L = 1", &[0, 13], 1)?;
+    place(
+        rt,
+        b"tag 0 and another, a seed above 0 with L = 1",
+        &[0, 13],
+        1,
+    )?;
     place(rt, b"a seed above 0 with L = 1", &[1, 3], 1)
 }
 

@@ -35,13 +35,24 @@ fn plan(rt: &impl Print, name: &[u8], text: &[u8]) -> io::Result<()> {
 }
 
 // Writes the tags of a text with a plan of two seeds, behind which all cells hold 4,294,967,295, into a buffer of 77 bytes.
-fn write(rt: &impl Print, name: &[u8], text: &[u8], groups: u32, first: u32, second: u32) -> io::Result<()> {
+fn write(
+    rt: &impl Print,
+    name: &[u8],
+    text: &[u8],
+    groups: u32,
+    first: u32,
+    second: u32,
+) -> io::Result<()> {
     let mut cells = [4294967295u32; 513];
     cells[0] = groups;
     cells[1] = first;
     cells[2] = second;
     let mut image = [b'.'; 77];
-    answer(rt, name, tag_index::tag_index_write(text, &cells, &mut image))?;
+    answer(
+        rt,
+        name,
+        tag_index::tag_index_write(text, &cells, &mut image),
+    )?;
     report::words(rt, &image)?;
     report::words(rt, b"\n")
 }
