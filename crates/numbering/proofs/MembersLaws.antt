@@ -1,5 +1,6 @@
 -- The tags of a group and its start: who belongs where, and that the groups follow one another. Assumes nothing.
-use Rattle.std.specs.Prelude.{◌≡◌, refl, ◌⊎◌, Bool, true, false, cond, List, [], ◌∷◌, ◌++◌, ℕ, zero, suc, ◌+◌, ◌-◌, ◌≤◌, ◌<◌, eqb, ltb, length, get_or}
+use Rattle.std.specs.Prelude.{◌≡◌, refl, ◌⊎◌, Bool, true, false, cond, List, [], ◌∷◌, ◌++◌, ℕ, zero, suc, ◌+◌, ◌-◌, ◌≤◌, ◌<◌, eqb, ltb}
+use Rattle.std.specs.Prelude.{length, get_or}
 use Rattle.std.proofs.Common.{inl, inr, add-zero, add-suc, arith, eqb-true, eq-eqb, ltb-true, ltb-false, lt-ltb, le-ltb}
 use Rattle.std.proofs.Math.Bool.{not-eq-not}
 use Rattle.std.proofs.lemmas.Bool.{eqb-false}
@@ -10,6 +11,10 @@ use Rattle.lists.proofs.OccursLaws.{occurs-here, occurs-there, occurs-cases, occ
 use Rattle.group.specs.Ascending.{Ascending}
 use Rattle.group.proofs.AscendingLaws.{ascending-above}
 use Rattle.numbering.specs.Members.{select, members, start_of}
+
+-- A number that is the first of a list occurs in it.
+occurs-same : (x y : ℕ) (ys : List ℕ) → x ≡ y → occurs x (y ∷ ys) ≡ true
+occurs-same x y ys same = rw same (occurs-here y ys)
 
 -- A tag that passes the test is selected,
 select-occurs : (test : ℕ → Bool) (xs : List ℕ) (x : ℕ) → occurs x xs ≡ true → test x ≡ true → occurs x (select test xs) ≡ true
@@ -38,7 +43,7 @@ occurs-select test (y ∷ ys) x m = go (test y) refl m (occurs-select test ys x)
     go true f m rest = at (occurs-cases x y (select test ys) m)
       where
         at : (x ≡ y) ⊎ (occurs x (select test ys) ≡ true) → (occurs x (y ∷ ys) ≡ true) × (test x ≡ true)
-        at (inl same) = rw same (occurs-here y ys, f)
+        at (inl same) = (occurs-same x y ys same, rw same f)
         at (inr n) = later (rest n)
     go false f m rest = later (rest m)
 

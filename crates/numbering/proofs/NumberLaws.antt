@@ -16,6 +16,10 @@ use Rattle.numbering.specs.Members.{members, start_of}
 use Rattle.numbering.proofs.MembersLaws.{members-own, members-distinct, start-all, start-suc, start-before}
 use Rattle.numbering.specs.Number.{choice_of, place_in, tag_numbered}
 
+-- A number that is the first of a list occurs in it.
+occurs-same : (x y : ℕ) (ys : List ℕ) → x ≡ y → occurs x (y ∷ ys) ≡ true
+occurs-same x y ys same = rw same (occurs-here y ys)
+
 -- Numbers that a list is mapped to: which occur, and when they are different.
 map-occurs : (f : ℕ → ℕ) (xs : List ℕ) (x : ℕ) → occurs x xs ≡ true → occurs (f x) (map f xs) ≡ true
 unfolding occurs
@@ -23,7 +27,7 @@ map-occurs f [] x m = cc
 map-occurs f (y ∷ ys) x m = go (occurs-cases x y ys m) (map-occurs f ys x)
   where
     go : (x ≡ y) ⊎ (occurs x ys ≡ true) → (occurs x ys ≡ true → occurs (f x) (map f ys) ≡ true) → occurs (f x) (map f (y ∷ ys)) ≡ true
-    go (inl same) rest = rw same (occurs-here (f y) (map f ys))
+    go (inl same) rest = occurs-same (f x) (f y) (map f ys) (ap f same)
     go (inr n) rest = occurs-there (f x) (f y) (map f ys) (rest n)
 
 -- A number in the image of a list, and where it comes from.
@@ -204,6 +208,11 @@ all_placed {groups} {tags} {seed} {choices} a = record {
       (e ∙ rw same);
 }
 
+-- What holds of a tag holds of an equal one.
+listed_at : (number : ℕ → ℕ) (tags : List ℕ) (j : ℕ) {t u : ℕ} → t ≡ u → (occurs u tags ≡ true) × (number u ≡ j)
+    → (occurs t tags ≡ true) × (number t ≡ j)
+listed_at number tags j same h = rw same h
+
 -- The tag whose number is j is a listed tag that has it, where there is one.
 pub tag_numbered-is : (number : ℕ → ℕ) (tags : List ℕ) (j : ℕ) → ImageOf number tags j
     → (occurs (tag_numbered number tags j) tags ≡ true) × (number (tag_numbered number tags j) ≡ j)
@@ -216,6 +225,6 @@ tag_numbered-is number (t ∷ ts) j r =
     go : (b : Bool) → eqb (number t) j ≡ b → (r.from ≡ t) ⊎ (occurs r.from ts ≡ true)
         → (occurs r.from ts ≡ true → (occurs (tag_numbered number ts j) ts ≡ true) × (number (tag_numbered number ts j) ≡ j))
         → (occurs (tag_numbered number (t ∷ ts) j) (t ∷ ts) ≡ true) × (number (tag_numbered number (t ∷ ts) j) ≡ j)
-    go true e o rest = rw e (occurs-here t ts, eqb-true (number t) j e)
+    go true e o rest = listed_at number (t ∷ ts) j (rw e) (occurs-here t ts, eqb-true (number t) j e)
     go false e (inl same) rest = absurd (eqb-false (number t) j e (ap number (sym same) ∙ r.value))
-    go false e (inr m) rest = rw e (occurs-there (tag_numbered number ts j) t ts (rest m).0, (rest m).1)
+    go false e (inr m) rest = listed_at number (t ∷ ts) j (rw e) (occurs-there (tag_numbered number ts j) t ts (rest m).0, (rest m).1)
