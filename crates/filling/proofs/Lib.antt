@@ -9,3 +9,4 @@ pub mod TakenLaws
 pub mod TouchedLaws
 pub mod WeightLaws
 pub mod WordLaws
+pub mod UntouchedLaws

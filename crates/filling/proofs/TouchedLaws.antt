@@ -85,8 +85,3 @@ touched-below n keys below =
     let inside : (x : ℕ) → occurs x (once xs) ≡ true → occurs x (numbers_below n) ≡ true =
     λ x t. numbers_below-occurs n x (candidate_places-each (λ x. x < n) keys below x (occurs-once xs x t)) in
     omega (arith, pigeonhole (once xs) (numbers_below n) (once-distinct xs) inside, numbers_below-length n)
-
--- The early drop: n keys on n places, of which another number than n is touched, are filled by nothing.
-pub untouched-none : (n : ℕ) (keys : List Key) → length keys ≡ n → EachCandidate (λ x. x < n) keys → (touched keys ≡ n → ⊥)
-    → (cs : List Bool) → Fills keys cs → ⊥
-untouched-none n keys size below other cs f = other (omega (arith, fills-touched keys cs f, touched-below n keys below))

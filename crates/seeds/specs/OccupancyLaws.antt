@@ -11,7 +11,7 @@ use Rattle.bits.specs.BitLaws.{bit-zero, bit-same, bit-other, set_bit-comm, set_
 use Rattle.lists.specs.Occurs.{occurs}
 use Rattle.filling.specs.Filling.{Key, place_by, Fills, EachCandidate}
 use Rattle.filling.specs.Touched.{candidate_places, once, touched}
-use Rattle.filling.proofs.TouchedLaws.{untouched-none}
+use Rattle.filling.proofs.UntouchedLaws.{untouched-none}
 use Rattle.filling.specs.Word.{choice_number}
 use Rattle.places.specs.Array.{places_by}
 use Rattle.seeds.specs.Occupancy.{occupancy, occupancy_of}
