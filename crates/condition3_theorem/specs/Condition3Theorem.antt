@@ -1,6 +1,6 @@
 -- Condition 3 holds of planning, writing and building as they are defined, for every list, group count, seed limit, plan and buffer.
 -- Assumes nothing.
-use Rattle.std.specs.Prelude.{◌≡◌, refl, Bool, true, cond, List, ℕ, ◌+◌, ◌-◌, ◌*◌, ◌≤◌, ◌<◌, length, get_or, take, drop}
+use Rattle.std.specs.Prelude.{◌≡◌, refl, Bool, true, cond, List, ℕ, ◌+◌, ◌*◌, ◌≤◌, ◌<◌, length, get_or, take, drop}
 use Rattle.std.proofs.Math.Path.{sym}
 use Rattle.std.proofs.Common.{◌∙◌, arith, take_at}
 use Rattle.std.proofs.Math.Bool.{false}
@@ -318,7 +318,8 @@ module _ (tags plan : List ℕ) (words : (t : ℕ) → occurs t tags ≡ true �
       (take_at image (drop (length image) before) size (image-length (planned_groups plan) tags (planned_seed plan) ∙ is)))
 
   -- What writing writes is accepted by checking.
-  pub written-checked : (room : ℕ) {size : ℕ} → writing_of tags plan room ≡ answered size → checking_of (planned_image tags plan) ≡ answered 0
+  pub written-checked : (room : ℕ) {size : ℕ} → writing_of tags plan room ≡ answered size → checking_of
+    (planned_image tags plan) ≡ answered 0
   unfolding planned_image
   written-checked room e = seeded-checked words (seeded-ready (ready-of-pass tags plan room (writing-says tags plan room e).0))
 
