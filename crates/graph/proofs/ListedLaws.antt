@@ -1,5 +1,5 @@
 -- What passes a test, as a list: as long as the test is passed often; and any list that has each of it once is as long. Assumes nothing.
-use Rattle.std.specs.Prelude.{ℕ, zero, suc, ◌<◌, ◌≡◌, refl, ◌≢◌, ◌↔◌, ◌⊎◌, Bool, true, false, cond, List, [], ◌∷◌, map, ltb, length, get_or}
+use Rattle.std.specs.Prelude.{ℕ, zero, suc, ◌<◌, ◌≡◌, refl, ◌↔◌, ◌⊎◌, Bool, true, false, cond, List, [], ◌∷◌, map, ltb, length, get_or}
 use Rattle.std.proofs.Common.{sym, ◌∙◌, ap, inl, inr, true≢false, arith, ltb-true, ltb-false}
 use Rattle.std.proofs.Math.Bool.{not-eq-not}
 use Rattle.std.proofs.lemmas.Bool.{false≢true}

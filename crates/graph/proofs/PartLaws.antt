@@ -1,6 +1,6 @@
 -- The parts by walks and the parts counted are the same: a part's points and edges, and how many parts there are, whichever point
 -- stands for each. Assumes nothing.
-use Rattle.std.specs.Prelude.{ℕ, suc, ◌≤◌, ◌<◌, ◌≡◌, ◌≢◌, ◌↔◌, Bool, not, ◌&&◌, List, [], map, length, get_or}
+use Rattle.std.specs.Prelude.{ℕ, suc, ◌≤◌, ◌<◌, ◌≡◌, ◌↔◌, Bool, ◌&&◌, List, map, length, get_or}
 use Rattle.std.proofs.Math.Path.{refl, sym}
 use Rattle.std.proofs.Common.{◌∙◌, true≢false}
 use Rattle.std.proofs.Math.Bool.{true, false, and_self}
@@ -18,7 +18,7 @@ use Rattle.lists.specs.Occurs.{occurs, distinct}
 use Rattle.lists.proofs.OccursLaws.{pigeonhole, get_or-occurs, occurs-get_or, distinct-get_or, get_or-distinct}
 use Rattle.filling.specs.Filling.{Key, place_by, Fills, EachCandidate}
 use Rattle.filling.specs.Separate.{key_place}
-use Rattle.graph.specs.HowMany.{one, how_many}
+use Rattle.graph.specs.HowMany.{how_many}
 use Rattle.graph.proofs.HowManyLaws.{how_many-at, how_many-map, how_many-same}
 use Rattle.graph.specs.Graph.{Connected, connected}
 use Rattle.graph.specs.Part.{Part, NoPartHasMoreEdges, OneOfEach, PartsAre}

@@ -1,5 +1,4 @@
 -- `bits::choice_at` meets its contract: the lowest bit of the shifted word is bit i. Assumes nothing.
-use borrow.Author.Rules.{rules}
 use Rattle.bits.specs.WordBitsLaws.{choice-shifted}
 use Rattle.bits.proofs.choice_at.Goals as goal
 

@@ -1,5 +1,4 @@
 -- `bits::toggled` meets its contract: an exclusive `or` with 2^i toggles bit i. Assumes nothing.
-use borrow.Author.Rules.{rules}
 use Rattle.bits.specs.BitLaws.{one_shifted}
 use Rattle.bits.specs.WordBitsLaws.{toggle-xor}
 use Rattle.bits.proofs.toggled.Goals as goal

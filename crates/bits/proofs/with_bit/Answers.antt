@@ -1,5 +1,4 @@
 -- `bits::with_bit` meets its contract: 1 shifted by p < 32 is 2^p, and `or` with it sets bit p. Assumes nothing.
-use borrow.Author.Rules.{rules}
 use Rattle.bits.specs.BitLaws.{set_bit-or, one_shifted}
 use Rattle.bits.proofs.with_bit.Goals as goal
 

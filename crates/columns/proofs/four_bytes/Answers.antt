@@ -1,5 +1,4 @@
 -- `columns::four_bytes` meets its contract: the bytes, each 256 times the one before. Assumes nothing.
-use borrow.Author.Rules.{rules}
 use Rattle.digits.specs.Digits.{packed}
 use Rattle.columns.proofs.Bytes.{four-bytes-at}
 use Rattle.columns.proofs.four_bytes.Goals as goal

@@ -1,5 +1,4 @@
 -- `columns::read_columns` meets its contract: no sum leaves 64 bits, since masked words are below their masks. Assumes nothing.
-use borrow.Author.Rules.{rules}
 use Prim.Native.Nat.{ℕ, ◌+◌, ◌*◌, ◌≤◌}
 use native.Mathlib.Omega.{arith}
 use lib.Bits.{bit_and, and_le_r}

@@ -1,5 +1,4 @@
 -- `columns::two_fours` meets its contract: each half of the word is tested as if it were alone. Assumes nothing.
-use borrow.Author.Rules.{rules}
 use mathlib.Core.Path.{◌∙◌}
 use native.Mathlib.Omega.{arith}
 use Rattle.columns.proofs.Spaces.{line-fours}

@@ -1,10 +1,8 @@
 -- `digits::write_digits_from` meets its contract: the columns from `i` on are written, and `rest` has the digits that are left.
 -- Assumes nothing.
-use borrow.Author.Rules.{rules}
-use mathlib.Core.Logic.{inl, inr, ⊎_elim}
+use mathlib.Core.Logic.{inl, inr}
 use native.Mathlib.Omega.{arith}
-use lib.ListN.{length}
-use Rattle.digits.proofs.Writing.{Writes, zero-most, writes_start, writes-turn, writes_end}
+use Rattle.digits.proofs.Writing.{writes_start, writes-turn, writes_end}
 use Rattle.digits.proofs.write_digits_from.Goals as goal
 use Rattle.digits.proofs.write_digits_from.Goals.{then-first-i, else-first-i}
 

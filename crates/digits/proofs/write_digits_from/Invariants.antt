@@ -1,9 +1,6 @@
 -- What the loops of `digits::write_digits_from` keep true. Assumes nothing.
-use borrow.Author.Rules.{rules}
-use mathlib.Core.Logic.{inl, inr, ⊎_elim}
-use native.Mathlib.Omega.{arith}
 use lib.ListN.{length}
-use Rattle.digits.proofs.Writing.{Writes, zero-most, writes_start, writes-turn, writes_end}
+use Rattle.digits.proofs.Writing.{Writes}
 use Rattle.digits.proofs.write_digits_from.Given as goal
 
 abbrev pub invariant-loop-i : goal.invariant-loop-i

@@ -1,6 +1,5 @@
 -- `digits::write_eight_digits` meets its contract: the bytes of the word are the digits, stored one behind another.
 -- Assumes nothing.
-use borrow.Author.Rules.{rules}
 use mathlib.Core.Path.{◌∙◌}
 use native.Mathlib.Omega.{arith}
 use lib.ListN.{length-set}
@@ -34,5 +33,7 @@ shape_of-buffer c = simp length-set
 
 pub returns : goal.returns
 returns c =
-    record { bytes = eight-written c.args.buffer.now c.args.at _ _ _ _ _ _ _ _ c.requires.0
-    ∙ rw (word_bytes c.args.n c.eight_digits-word.result c.eight_digits-word.ensures.answer) }
+    record {
+      bytes = eight-written c.args.buffer.now c.args.at _ _ _ _ _ _ _ _ c.requires.0
+          ∙ rw (word_bytes c.args.n c.eight_digits-word.result c.eight_digits-word.ensures.answer);
+    }

@@ -1,5 +1,4 @@
 -- `hash::hashed` meets its contract: the high part of the wrapped product is what its callees answer. Assumes nothing.
-use borrow.Author.Rules.{rules}
 use Rattle.hash.specs.Formula.{hashed}
 use Rattle.hash.proofs.hashed.Goals as goal
 

@@ -1,5 +1,4 @@
 -- `hash::place_of` meets its contract: it hashes by the multiplier of the seed and the choice. Assumes nothing.
-use borrow.Author.Rules.{rules}
 use Rattle.hash.specs.Formula.{place_of}
 use Rattle.hash.proofs.place_of.Goals as goal
 

@@ -1,6 +1,5 @@
 -- `hash::place_of_one_tag` meets its contract: each branch is one of the four ways in which the operation ends.
 -- Assumes nothing.
-use borrow.Author.Rules.{rules}
 use mathlib.Core.Path.{◌≡◌, sym}
 use mathlib.Core.Bool.{false}
 use Rattle.refusal.specs.Limits.{group_max, outside}
@@ -28,5 +27,7 @@ pub returns : goal.returns
 returns c =
     let a = c.args in
     let in-range : outside 1 group_max a.n ≡ false = cc in
-    record { answer = rw c.place_of.ensures.answer
-    (sym (one-tag-place a.n a.seed a.choice a.tag in-range c.if-seed-gt-SEED_MAX.false c.if-choice-gt1.false)) }
+    record {
+      answer = rw c.place_of.ensures.answer
+          (sym (one-tag-place a.n a.seed a.choice a.tag in-range c.if-seed-gt-SEED_MAX.false c.if-choice-gt1.false));
+    }

@@ -1,5 +1,5 @@
 -- `text::column_byte` meets its contract: a space where nothing has come, and else the digit. Assumes nothing.
-use Rattle.std.proofs.Common.{rules, eq-eqb, ne_eqb}
+use Rattle.std.proofs.Common.{eq-eqb, ne_eqb}
 use Rattle.columns.specs.Columns.{column_of}
 use Rattle.text.proofs.column_byte.Goals as goal
 

@@ -1,5 +1,5 @@
 -- `text::end_digit` meets its contract: the two bytes side by side are their sum. Assumes nothing.
-use Rattle.std.proofs.Common.{◌∙◌, arith, rules}
+use Rattle.std.proofs.Common.{◌∙◌, arith}
 use lib.Bits.{or_shifted_r}
 use Rattle.text.proofs.end_digit.Goals as goal
 

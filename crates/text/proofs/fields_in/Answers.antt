@@ -1,6 +1,6 @@
 -- `text::fields_in` meets its contract: four leading columns of each field are read at once, and the last ones by themselves.
 -- Assumes nothing.
-use Rattle.std.proofs.Common.{sym, ap, ◌∙◌, arith, rules}
+use Rattle.std.proofs.Common.{sym, ap, ◌∙◌, arith}
 use Rattle.columns.specs.Answer.{fours_meaning}
 use Rattle.text.proofs.Lines.{fields-some, fields-none, both_some, both-none, digit-of, no_digit}
 use Rattle.text.proofs.fields_in.Goals as goal
@@ -12,17 +12,23 @@ returns-in_default c =
 
 pub returns-then-first-ge10 : goal.returns-then-first-ge10
 returns-then-first-ge10 c =
-    record { answer = sym (fields-none c.args.line.now (omega arith)
-    (λ m n x y first second h a l b. no_digit c.wrapping_sub_u8-first.ensures.value (omega arith) c.if-first-ge10.true h a)) }
+    record {
+      answer = sym (fields-none c.args.line.now (omega arith)
+          (λ m n x y first second h a l b. no_digit c.wrapping_sub_u8-first.ensures.value (omega arith) c.if-first-ge10.true h a));
+    }
 
 pub returns-then-second-ge10 : goal.returns-then-second-ge10
 returns-then-second-ge10 c =
-    record { answer = sym (fields-none c.args.line.now (omega arith)
-    (λ m n x y first second h a l b. no_digit c.wrapping_sub_u8-second.ensures.value (omega arith) c.if-second-ge10.true l b)) }
+    record {
+      answer = sym (fields-none c.args.line.now (omega arith)
+          (λ m n x y first second h a l b. no_digit c.wrapping_sub_u8-second.ensures.value (omega arith) c.if-second-ge10.true l b));
+    }
 
 pub returns : goal.returns
 returns c =
     let (first, second) = both_some _ _ (ap fours_meaning (sym c.in-Numbers.is) ∙ c.two_fours.ensures.answer) in
-    record { answer = sym (fields-some c.args.line.now (omega arith) first second
-    (digit-of c.wrapping_sub_u8-first.ensures.value c.if-first-ge10.false) c.if-first-ge10.false
-    (digit-of c.wrapping_sub_u8-second.ensures.value c.if-second-ge10.false) c.if-second-ge10.false) }
+    record {
+      answer = sym (fields-some c.args.line.now (omega arith) first second
+          (digit-of c.wrapping_sub_u8-first.ensures.value c.if-first-ge10.false) c.if-first-ge10.false
+          (digit-of c.wrapping_sub_u8-second.ensures.value c.if-second-ge10.false) c.if-second-ge10.false);
+    }

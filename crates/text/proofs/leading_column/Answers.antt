@@ -1,5 +1,5 @@
 -- `text::leading_column` meets its contract: each branch is one of the ways in which a column is read. Assumes nothing.
-use Rattle.std.proofs.Common.{sym, ◌∙◌, rules}
+use Rattle.std.proofs.Common.{sym, ◌∙◌}
 use Rattle.text.proofs.Leading.{column-no-digit, column-other, column-same}
 use Rattle.text.proofs.leading_column.Goals as goal
 

@@ -1,6 +1,5 @@
 -- `text::part` meets its contract: past the end nothing is left, near the end what is left is taken,
 -- and else the part lies within the bytes. Assumes nothing.
-use Rattle.std.proofs.Common.{rules}
 use Rattle.text.proofs.PartLaws.{part-past, part-short, part-whole}
 use Rattle.text.proofs.part.Goals as goal
 

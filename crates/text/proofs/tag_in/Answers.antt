@@ -1,14 +1,13 @@
 -- `text::tag_in` meets its contract: eight leading columns are read at once, the ninth and the last by themselves. Assumes nothing.
-use Rattle.std.proofs.Common.{◌≡◌, ℕ, ◌+◌, ◌*◌, ◌<◌, List, length, take, sym, ap, ◌∙◌, arith, rules, le-ltb, lt-ltb}
+use Rattle.std.proofs.Common.{◌≡◌, ℕ, ◌+◌, ◌*◌, ◌<◌, take, sym, ap, ◌∙◌, arith, le-ltb, lt-ltb}
 use mathlib.Core.Option.{some}
 use Rattle.refusal.specs.Limits.{tag_end}
-use Rattle.columns.specs.declared.Eight.{Eight}
 use Rattle.columns.specs.Answer.{eight_meaning}
 use Rattle.columns.specs.Columns.{leading_from}
 use Rattle.text.specs.declared.Field.{Field}
 use Rattle.text.specs.declared.Field.TheVariants.{Value}
 use Rattle.text.specs.Answer.{field_meaning}
-use Rattle.text.specs.Line.{line_length, tag_of, within}
+use Rattle.text.specs.Line.{tag_of, within}
 use Rattle.text.proofs.Lines.{tag-some, tag-none, tag-no-columns, nine-none, nine-more, nine-below, ending_of, no-ending}
 use Rattle.text.proofs.tag_in.Goals as goal
 use Rattle.text.proofs.tag_in.Goals.{After-end_digit-last, After-leading_column, Else-last-ge10}
@@ -39,9 +38,9 @@ reads : (c : Else-last-ge10) → tag_of c.args.line.now ≡ some (number c)
 reads c =
     let line = c.args.line.now in
     let lead : field_meaning (Value c.in-Value.nine) ≡ leading_from 0 (take 9 line) =
-        ap field_meaning (sym c.in-Value.is)
-        ∙ c.leading_column.ensures.answer
-        ∙ nine-more line c.requires (ap eight_meaning (sym c.in-Number.is) ∙ c.eight_columns.ensures.answer) in
+    ap field_meaning (sym c.in-Value.is)
+    ∙ c.leading_column.ensures.answer
+    ∙ nine-more line c.requires (ap eight_meaning (sym c.in-Number.is) ∙ c.eight_columns.ensures.answer) in
     tag-some line c.requires (sym lead)
     (ending_of line c.end_digit-last.ensures.answer (omega (arith, c.type_inv.line 9)) (omega (arith, c.type_inv.line 10)) c.if-last-ge10.false)
 
@@ -51,9 +50,9 @@ returns-in_default c =
     let line = c.args.line.now in
     record {
       answer = rw (
-        tag-no-columns line c.requires
-        (nine-none line c.requires (ap eight_meaning (sym c.in_default.is) ∙ c.eight_columns.ensures.answer))
-      );
+          tag-no-columns line c.requires
+          (nine-none line c.requires (ap eight_meaning (sym c.in_default.is) ∙ c.eight_columns.ensures.answer))
+          );
     }
 
 pub returns-in_default-leading_column : goal.returns-in_default-leading_column
@@ -61,9 +60,9 @@ unfolding within
 returns-in_default-leading_column c =
     record {
       answer = rw (
-        tag-no-columns c.args.line.now c.requires
-        (nine (goal.at.returns-in_default-leading_column c).After-leading_column c.in_default-leading_column.is)
-      );
+          tag-no-columns c.args.line.now c.requires
+          (nine (goal.at.returns-in_default-leading_column c).After-leading_column c.in_default-leading_column.is)
+          );
     }
 
 pub returns-then-last-ge10 : goal.returns-then-last-ge10

@@ -1,6 +1,5 @@
 -- `weight::key_weight` meets its contract: 1 shifted by 31 - i is 2^(31 - i), and the sum has 34 bits. Assumes nothing.
 use native.Mathlib.Omega.{arith}
-use borrow.Author.Rules.{rules}
 use Rattle.filling.proofs.WeightLaws.{key_weight-most}
 use Rattle.weight.specs.WordWeightLaws.{key_weight-shifted}
 use Rattle.weight.proofs.key_weight.Goals as goal

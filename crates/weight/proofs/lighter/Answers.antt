@@ -1,6 +1,5 @@
 -- `weight::lighter` meets its contract: the words' weights are what `weight_of` answers. Assumes nothing.
 use native.Mathlib.Omega.{arith}
-use borrow.Author.Rules.{rules}
 use borrow.Author.Tests.{lt-ltb, le-ltb}
 use Rattle.weight.specs.WordWeight.{word_weight, lighter_of}
 use Rattle.weight.proofs.lighter.Goals as goal

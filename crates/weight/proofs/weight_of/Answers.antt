@@ -1,7 +1,6 @@
 -- `weight::weight_of` meets its contract: the sum so far is the weight of the first i choices. Assumes nothing.
-use Prim.Native.Nat.{◌-◌, ◌≤◌, ◌<◌}
-use mathlib.Core.Path.{◌≡◌, refl, sym, ◌∙◌}
-use mathlib.Core.Logic.{⊎_elim}
+use Prim.Native.Nat.{◌<◌}
+use mathlib.Core.Path.{◌≡◌, sym, ◌∙◌}
 use native.Mathlib.Omega.{arith}
 use borrow.Author.Rules.{rules}
 use Rattle.filling.specs.Weight.{key_weight, total}
@@ -29,10 +28,10 @@ loop-i-preserved c =
     let i = c.loop-i.i in (
       omega arith,
       elim c.if-choice_at-eq1.branch [
-        then-choice_at-eq1 w ↦
-          omega (arith, w, total-second key_weight choice i (choice_number-one (choice i) (sym test ∙ w.if-choice_at-eq1.true)))
-      | else-choice_at-eq1 w ↦
-          omega (arith, w, total_first key_weight choice i (choice_number-zero (choice i) (λ e. w.if-choice_at-eq1.false (test ∙ e))))
+        | then-choice_at-eq1 w ↦
+            omega (arith, w, total-second key_weight choice i (choice_number-one (choice i) (sym test ∙ w.if-choice_at-eq1.true)))
+        | else-choice_at-eq1 w ↦
+            omega (arith, w, total_first key_weight choice i (choice_number-zero (choice i) (λ e. w.if-choice_at-eq1.false (test ∙ e))))
       ],
     )
 

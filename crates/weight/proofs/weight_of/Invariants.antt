@@ -1,13 +1,8 @@
 -- What the loops of `weight::weight_of` keep true. Assumes nothing.
-use Prim.Native.Nat.{◌-◌, ◌≤◌, ◌<◌}
-use mathlib.Core.Path.{◌≡◌, sym, ◌∙◌}
-use mathlib.Core.Logic.{⊎_elim}
-use native.Mathlib.Omega.{arith}
-use borrow.Author.Rules.{rules}
+use Prim.Native.Nat.{◌-◌, ◌≤◌}
+use mathlib.Core.Path.{◌≡◌}
 use Rattle.filling.specs.Weight.{key_weight, total}
-use Rattle.filling.proofs.WeightLaws.{total_first, total-second, weight-most, key_weight-most}
 use Rattle.bits.specs.WordBits.{choice_in}
-use Rattle.bits.specs.WordBitsLaws.{choice_number-one, choice_number-zero}
 use Rattle.weight.proofs.weight_of.Given as goal
 
 abbrev pub invariant-loop-i : goal.invariant-loop-i

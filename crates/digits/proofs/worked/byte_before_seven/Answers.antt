@@ -1,6 +1,5 @@
 -- `digits::worked::byte_before_seven` meets its contract: by the two promises the field is the figure that the definitions compute to.
 -- Assumes nothing.
-use borrow.Author.Rules.{rules}
 use mathlib.Core.Path.{◌≡◌, refl}
 use mathlib.Core.List.{[], ◌∷◌}
 use mathlib.Core.Option.{or_else}

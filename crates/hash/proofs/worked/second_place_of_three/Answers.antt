@@ -1,6 +1,5 @@
 -- `hash::worked::second_place_of_three` meets its contract: by the promise of `place_of_one_tag` the answer is what the formula
 -- computes to. Assumes nothing.
-use borrow.Author.Rules.{rules}
 use mathlib.Core.Path.{◌≡◌, refl}
 use Rattle.refusal.specs.Limits.{outside}
 use Rattle.refusal.specs.Outcome.{answered}
