@@ -1,6 +1,5 @@
 -- `placing::place_group` meets its contract: under the seed found the sequence taken fills, so its word is what `word_under` answers.
 -- Assumes nothing.
-use borrow.Author.Rules.{rules}
 use mathlib.Core.Path.{◌≡◌, sym, ◌∙◌, ap}
 use mathlib.Core.Option.{none, some}
 use mathlib.Core.List.{List}
@@ -18,8 +17,8 @@ use Rattle.group.specs.Placing.{Placement, placing_of}
 use Rattle.sequence.specs.Answer.{choices_meaning}
 use Rattle.placing.specs.Answer.{seed_outcome}
 use Rattle.placing.proofs.PlacingLaws.{few, limit-legal, placing-says}
-use Rattle.placing.proofs.place_group.Statement.{statement}
-use Rattle.placing.proofs.place_group.Tie as tie
+use Rattle.placing.proofs.place_group.Goals as goal
+use Rattle.placing.proofs.place_group.Goals.{After-word_under, In-Seed}
 
 -- What a seed that is answered says.
 record Seeded (tags : List ℕ) (limit seed : ℕ) : Type 0 where
@@ -44,50 +43,29 @@ seeded tags limit {seed} e =
     placement placed s w = rw (← s, ← w)
 
 -- Behind the search.
-at-seed : (c : tie.After-seed)
-    → Seeded c.before.before.before.before.args.tags.now c.before.before.before.before.args.limit c.seed.given.0.0
-at-seed c = seeded _ _ (sym c.before.before.group-seed.ensures ∙ ap seed_outcome c.seed.given.1)
+at-seed : (c : In-Seed) → Seeded c.args.tags.now c.args.limit c.in-Seed.seed
+at-seed c = seeded _ _ (sym c.group_seed.ensures.answer ∙ ap seed_outcome c.in-Seed.is)
 
-word-under-requires : tie.Need-word-under-requires
-word-under-requires c κs = (at-seed c.before).small
+pub word_under-requires : goal.word_under-requires
+word_under-requires c = (at-seed c).small
 
 -- The word answered is that of the sequence taken.
-word-is : (c : tie.After-word-under)
-    → (let found = c.before.before in
-    let tags = found.before.before.before.before.args.tags.now in
-    choices_meaning c.word-under.result ≡ some (word_of (taken tags found.seed.given.0.0)))
-word-is c = c.word-under.ensures ∙ (at-seed c.before.before).word
+word-is : (c : After-word_under) → choices_meaning c.word_under.result ≡ some (word_of (taken c.args.tags.now c.in-Seed.seed))
+word-is c = c.word_under.ensures.answer ∙ (seeded _ _ (sym c.group_seed.ensures.answer ∙ ap seed_outcome c.in-Seed.is)).word
 
-returns : tie.Need-returns
-returns c =
-    let asked = c.before.before.before in
-    let found = asked.before.before in
-    let tags = found.before.before.before.before.args.tags.now in
-    let same = sym (ap choices_meaning c.before.word.given.1) ∙ word-is asked in
-    let word_same : c.before.word.given.0.0 ≡ word_of (taken tags found.seed.given.0.0) = cc in
-    rw word_same (sym (at-seed found).outcome)
+pub returns-in-Word : goal.returns-in-Word
+returns-in-Word c =
+    let tags = c.args.tags.now in
+    let same = sym (ap choices_meaning c.in-Word.is) ∙ word-is (goal.at.returns-in-Word c).After-word_under in
+    let word_same : c.in-Word.word ≡ word_of (taken tags c.in-Seed.seed) = cc in
+    record { answer = rw word_same (sym (at-seed (goal.at.returns-in-Word c).In-Seed).outcome) }
 
-returns-2 : tie.Need-returns-2
-returns-2 c =
-    let never : none ≡ some _ = sym (ap choices_meaning c.enum_told.given.1) ∙ word-is c.before.before in
-    cc
+pub returns-in-Nothing : goal.returns-in-Nothing
+returns-in-Nothing c =
+    let never : none ≡ some _ = sym (ap choices_meaning c.in-Nothing.is) ∙ word-is (goal.at.returns-in-Nothing c).After-word_under in
+    record { answer = cc }
 
-returns-3 : tie.Need-returns-3
-returns-3 c =
-    let told = c.before in
-    let outcome = sym told.before.before.group-seed.ensures ∙ ap seed_outcome told.refusal.given.1 in
-    sym (refused-of-by (λ (placed : Placement). placed.seed) _ outcome)
-
-pub place-group-spec : {M : Type 1} → statement M
-place-group-spec =
-    tie.close
-    (tie.spec
-    (λ c κs. search rules)  -- group-seed-requires
-    (λ c. search rules)  -- enum-known-seed
-    word-under-requires
-    (λ c. search rules)  -- enum-known-word
-    (λ c. search rules)  -- enum_told
-    (λ c. search rules)  -- enum-known-refusal
-    returns
-    returns-2
-    returns-3)
+pub returns-in-Refused : goal.returns-in-Refused
+returns-in-Refused c =
+    let outcome = sym c.group_seed.ensures.answer ∙ ap seed_outcome c.in-Refused.is in
+    record { answer = sym (refused-of-by (λ (placed : Placement). placed.seed) _ outcome) }

@@ -1,6 +1,5 @@
 -- `placing::worked::placement_of_one_and_three` meets its contract: by the promise of `place_group` the answer is what the
 -- definition computes to. Assumes nothing.
-use borrow.Author.Rules.{rules}
 use mathlib.Core.Path.{◌≡◌, refl, ap}
 use mathlib.Core.List.{[], ◌∷◌}
 use mathlib.Core.Option.{or_else}
@@ -21,8 +20,7 @@ use Rattle.group.specs.Group.{both_places, candidates, least_seed, taken}
 use Rattle.group.specs.Ascending.{not_above}
 use Rattle.group.specs.Unwired.{starts_unwired}
 use Rattle.group.specs.Placing.{Placement, placing_checks, placement_of, placing_of}
-use Rattle.placing.proofs.worked.placement_of_one_and_three.Statement.{statement}
-use Rattle.placing.proofs.worked.placement_of_one_and_three.Tie as tie
+use Rattle.placing.proofs.worked.placement_of_one_and_three.Goals as goal
 
 computed : placing_of (1 ∷ 3 ∷ []) 2 ≡ answered (record { seed = 1; word = 2 })
 unfolding or_else outside first met_at is_some met in_order product high_part hashed multiplier place_of occurs place_by
@@ -37,35 +35,22 @@ said {seed} {word} e =
     let same : ◌≡◌ {A = Placement} (record { seed = seed; word = word }) (record { seed = 1; word = 2 }) = cc computed in
     (ap (λ (p : Placement). p.seed) same, ap (λ (p : Placement). p.word) same)
 
-returns : tie.Need-returns
+pub returns-in_default : goal.returns-in_default
+returns-in_default c =
+    let promised = rw c.in_default.is at c.place_group.ensures.answer in
+    record { answer = cc computed }
+
+pub overflow_mul-result : goal.overflow_mul-result
+overflow_mul-result c =
+    let promised = rw c.in-Placed.is at c.place_group.ensures.answer in
+    omega (arith, said promised)
+
+pub overflow_add-result : goal.overflow_add-result
+overflow_add-result c =
+    let promised = rw c.in-Placed.is at c.place_group.ensures.answer in
+    omega (arith, said promised)
+
+pub returns : goal.returns
 returns c =
-    let promised = rw c.enum_told.given.1 at c.before.before.place-group.ensures in
-    cc computed
-
-mul-result : tie.Need-overflow-mul-result
-mul-result c =
-    let promised = rw c.before.seed.given.1 at c.before.before.before.place-group.ensures in
-    omega (arith, said promised)
-
-add-result : tie.Need-overflow-add-result
-add-result c =
-    let promised = rw c.before.seed.given.1 at c.before.before.before.place-group.ensures in
-    omega (arith, said promised)
-
-returns-2 : tie.Need-returns-2
-returns-2 c =
-    let promised = rw c.before.seed.given.1 at c.before.before.before.place-group.ensures in
-    omega (arith, said promised)
-
-pub placement-of-one-and-three-spec : {M : Type 1} → statement M
-placement-of-one-and-three-spec =
-    tie.close
-    (tie.spec
-    (λ c. search rules)  -- slice-aggregate-place-group
-    (λ c κs. search rules)  -- place-group-requires
-    (λ c. search rules)  -- enum-known-seed
-    (λ c. search rules)  -- enum_told
-    returns
-    mul-result
-    add-result
-    returns-2)
+    let promised = rw c.in-Placed.is at c.place_group.ensures.answer in
+    record { answer = omega (arith, said promised) }
