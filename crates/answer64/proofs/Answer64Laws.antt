@@ -34,7 +34,8 @@ promised64 o fits holds told answer h =
 pub answers-apart : (o p : Outcome ℕ) → Fits o → Fits p → answer64 o ≡ answer64 p → o ≡ p
 answers-apart o p fo fp e = sym (outcome-answer o fo) ∙ ap outcome64 e ∙ outcome-answer p fp
 
-pub fits-of : (bound : ℕ) (o : Outcome ℕ) → bound ≤ tag_end → PlaceBelow bound o → Numbered o → ((n : ℕ) → o ≡ answered n → n < tag_end) → Fits o
+pub fits-of : (bound : ℕ) (o : Outcome ℕ) → bound ≤ tag_end → PlaceBelow bound o → Numbered o → ((n : ℕ) → o ≡ answered n → n < tag_end)
+    → Fits o
 fits-of bound (answered n) le place numbered below = below n refl
 fits-of bound (refused reason place) le low numbered below = (numbered, omega arith)
 

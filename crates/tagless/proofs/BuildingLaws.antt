@@ -3,7 +3,7 @@ use Rattle.std.specs.Prelude.{◌≡◌, true, false, length, drop}
 use Rattle.std.proofs.Math.Path.{refl}
 use Rattle.std.proofs.Common.{ap}
 use mathlib.Core.List.{List, ◌++◌}
-use Rattle.std.proofs.Math.Option.{Option, none, some, get_or}
+use Rattle.std.proofs.Math.Option.{Option, some, get_or}
 use Prim.Native.Nat.{ℕ, ◌<◌}
 use Rattle.std.proofs.lemmas.Bool.{not-false, not-true}
 use Rattle.refusal.specs.Outcome.{answered, refused}
@@ -25,7 +25,8 @@ use Rattle.tagless.specs.Building.{tagless_image_of, tagless_after}
 -- The image has the length that building answers.
 pub image-length : (groups : ℕ) (tags : List ℕ) (limit : ℕ) → length (tagless_image_of groups tags limit) ≡ tagless_length groups
 unfolding tagless_image_of tagless_sheet_of
-image-length groups tags limit = tagless-length (tagless_sheet_of groups tags (tagless_seed groups tags limit) (tagless_word groups tags limit))
+image-length groups tags limit = tagless-length
+    (tagless_sheet_of groups tags (tagless_seed groups tags limit) (tagless_word groups tags limit))
 
 module _ (tags : List ℕ) (groups limit : ℕ) where
   -- A group that is not without a word has its least seed and word,
@@ -66,7 +67,8 @@ module _ (tags : List ℕ) (groups limit : ℕ) where
     building-answered passes = in_order-pass checks _ passes
 
     -- An answer says that the checks pass, and it is the length.
-    pub building-says : {size : ℕ} → tagless_building_of tags groups limit room ≡ answered size → Pass checks × (tagless_length groups ≡ size)
+    pub building-says : {size : ℕ} → tagless_building_of tags groups limit room ≡ answered size
+        → Pass checks × (tagless_length groups ≡ size)
     unfolding tagless_building_of
     building-says e = let (passes, answer) = in_order-answered checks (answered (tagless_length groups)) e in (passes, cc)
 
@@ -78,7 +80,8 @@ module _ (tags : List ℕ) (groups limit : ℕ) where
 
   -- The buffer: the image and then what was there; a refusal leaves it.
   pub after-answered : (before : List ℕ) {size : ℕ} → tagless_building_of tags groups limit (length before) ≡ answered size
-      → tagless_after tags groups limit before ≡ tagless_image_of groups tags limit ++ drop (length (tagless_image_of groups tags limit)) before
+      → tagless_after tags groups limit before
+      ≡ tagless_image_of groups tags limit ++ drop (length (tagless_image_of groups tags limit)) before
   unfolding tagless_after written
   after-answered before e = left-answered _ _ e
 

@@ -26,7 +26,8 @@ use Rattle.tagless.specs.Building.{tagless_room_check, word_check, tagless_build
 
 -- `unfolding computed` opens every definition that these compute through.
 computed : ℕ
-unfolding or_else outside first met_at up_to met in_order product high_part hashed group_of multiplier place_of choice_number select members start_of
+unfolding or_else outside first met_at up_to met in_order product high_part hashed group_of multiplier place_of
+    choice_number select members start_of
     not_above starts_unwired ones ones_in parity row_of choice_by tagless_length tagless_number tagless_building_checks tagless_building_of
     tagless_sheet_of
 computed = 0

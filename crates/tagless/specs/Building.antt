@@ -59,7 +59,8 @@ tagless_sheet_of groups tags seed word = record {
 
 -- The image, and the buffer afterwards.
 unfoldable pub tagless_image_of : ℕ → List ℕ → ℕ → List ℕ
-tagless_image_of groups tags limit = tagless_bytes (tagless_sheet_of groups tags (tagless_seed groups tags limit) (tagless_word groups tags limit))
+tagless_image_of groups tags limit = tagless_bytes
+    (tagless_sheet_of groups tags (tagless_seed groups tags limit) (tagless_word groups tags limit))
 
 unfoldable pub tagless_after : List ℕ → ℕ → ℕ → List ℕ → List ℕ
 tagless_after tags groups limit before =

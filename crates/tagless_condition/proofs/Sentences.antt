@@ -103,7 +103,8 @@ module _ {tags : List ℕ} {groups limit room : ℕ} {answer : Outcome ℕ} {aft
     belongs-to-one j lt = let one = accepted.number-once j lt in (one.tag, one.listed, one.number_is, one.only)
 
     -- and lookup in the written bytes answers them.
-    pub listed_found : (t : ℕ) → t < tag_end → occurs t tags ≡ true → tagless_lookup_of (take size after) t ≡ answered (number (number_for t))
+    pub listed_found : (t : ℕ) → t < tag_end → occurs t tags ≡ true
+        → tagless_lookup_of (take size after) t ≡ answered (number (number_for t))
     unfolding seed_of word_of number_for tagless_number
     listed_found = accepted.listed
 

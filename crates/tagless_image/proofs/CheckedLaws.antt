@@ -106,13 +106,16 @@ module _ (image : List ℕ) (sound : Sound (tagless_view image)) where
         lookup-wired image t wired
         ∙ in_order-pass (tagless_lookup_checks v own) _ (group-passes v sound own (group-below (groups_in v) t many))
 
-    pub sound_empty : start_in (tagless_view image) (own_group (tagless_view image) t) ≡ end_in (tagless_view image) (own_group (tagless_view image) t)
+    pub sound_empty : start_in (tagless_view image) (own_group (tagless_view image) t)
+        ≡ end_in (tagless_view image) (own_group (tagless_view image) t)
         → tagless_lookup_of image t ≡ answered unknown
     unfolding own
     sound_empty empty = lookup-passes ∙ rw (eq-eqb _ _ empty)
 
-    pub sound-number : (start_in (tagless_view image) (own_group (tagless_view image) t) ≡ end_in (tagless_view image) (own_group (tagless_view image) t) → ⊥)
+    pub sound-number : (start_in (tagless_view image) (own_group (tagless_view image) t)
+        ≡ end_in (tagless_view image) (own_group (tagless_view image) t) → ⊥)
         → tagless_lookup_of image t
-        ≡ answered (number (number_by (tagless_view image) (word_in image (own_group (tagless_view image) t)) (own_group (tagless_view image) t) t))
+        ≡ answered (number (number_by (tagless_view image) (word_in image (own_group (tagless_view image) t))
+        (own_group (tagless_view image) t) t))
     unfolding own
     sound-number filled = lookup-passes ∙ rw (ne_eqb _ _ filled)

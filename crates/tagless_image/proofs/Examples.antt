@@ -25,11 +25,11 @@ use Rattle.tagless_image.specs.Lookup.{tagless_lookup_checks, number_by, tagless
 
 -- `unfolding computed` opens every definition that these compute through.
 computed : ℕ
-unfolding flatten or_else first met_at is_some met in_order product high_part hashed group_of multiplier place_of choice_number leading figure
-    value_from same field line_at pair_line tag_line ended both_fields pair_of tag_of within image_header word_line and_third triple_of group_word_line
-    count_in groups_in start_in seed_in end_in faulty candidate_in malformed_in group_checks ones ones_in parity row_of choice_by tagless_length
-    group_line_at stated_at tagless_view word_in tagless_opening tagless_checks tagless_checking_of tagless_lookup_checks number_by tagless_in_group
-    tagless_lookup_of
+unfolding flatten or_else first met_at is_some met in_order product high_part hashed group_of multiplier place_of choice_number leading
+    figure value_from same field line_at pair_line tag_line ended both_fields pair_of tag_of within image_header word_line and_third
+    triple_of group_word_line count_in groups_in start_in seed_in end_in faulty candidate_in malformed_in group_checks ones ones_in
+    parity row_of choice_by tagless_length group_line_at stated_at tagless_view word_in tagless_opening tagless_checks
+    tagless_checking_of tagless_lookup_checks number_by tagless_in_group tagless_lookup_of
 computed = 0
 
 -- The whole case: the tags 1, 2 and 3 in two groups. Tag 3 is at its second place: the word 1 says so.

@@ -1,5 +1,5 @@
 -- What a lookup in an index without tags depends on, and how far its numbers go, for any bytes at all. Assumes nothing.
-use Rattle.std.specs.Prelude.{◌≡◌, Bool, true, false, not, List, eqb, ltb, length}
+use Rattle.std.specs.Prelude.{◌≡◌, Bool, true, false, List, eqb, ltb, length}
 use Rattle.std.proofs.Math.Path.{refl, sym}
 use Rattle.std.proofs.Common.{◌∙◌, ap, arith, ltb-false, ne_eqb}
 use Rattle.std.proofs.Math.Bool.{cond}
@@ -53,7 +53,8 @@ in-group-below v word t g {j} e =
     let (passes, e') = in_order-answered (tagless_lookup_checks v g) _ e in
     let group = passed (group_checks v g) (pass-split (tagless_opening v) (group_checks v g) passes).1 13 in
     let (fine, ends) = neither-of-or (faulty g (start_in v g) (end_in v g)) (ltb (count_in v) (end_in v g)) (false-of-met_at g _ group) in
-    go (fair-of-faulty g (start_in v g) (end_in v g) fine) (ltb-false (count_in v) (end_in v g) ends) (eqb (start_in v g) (end_in v g)) refl e'
+    go (fair-of-faulty g (start_in v g) (end_in v g) fine) (ltb-false (count_in v) (end_in v g) ends)
+    (eqb (start_in v g) (end_in v g)) refl e'
   where
     choice : ℕ
     choice = choice_number (choice_by word (seed_in v g) t)
@@ -131,7 +132,8 @@ module _ (p q : List ℕ) (t : ℕ) (same_size : length p ≡ length q) (same_li
           → in_order (group_checks v own) (found v (word_in p own)) ≡ in_order (group_checks w own) (found w (word_in q own))
       behind opens =
           let line = line-agrees own (read.own wired opens) in
-          let next : is_some (v.group_at (suc own)) ≡ true → suc own < groups_in v → v.group_at (suc (suc own)) ≡ w.group_at (suc (suc own)) =
+          let next : is_some (v.group_at (suc own)) ≡ true → suc own < groups_in v → v.group_at (suc (suc own))
+          ≡ w.group_at (suc (suc own)) =
           λ well lt. line-agrees (suc own) (read.next wired opens well lt) in
           in_order-agree (group_checks v own) (group_checks w own) _ _
           (group-agrees v w own same-groups same_count line _ next

@@ -1,5 +1,5 @@
 -- The length of an index without tags, and that each line of it is the line that was put there and reads back. Assumes nothing.
-use Rattle.std.specs.Prelude.{◌≡◌, ℕ, suc, ◌+◌, ◌*◌, ◌^◌, ◌≤◌, ◌<◌, length}
+use Rattle.std.specs.Prelude.{◌≡◌, ℕ, suc, ◌*◌, ◌^◌, ◌≤◌, ◌<◌, length}
 use Rattle.std.proofs.Common.{◌∙◌}
 use Rattle.std.proofs.Math.Path.{ap}
 use mathlib.Core.List.{List, [], flatten}
@@ -34,7 +34,8 @@ module _ (s : TaglessSheet) where
       ∙ omega (
         arith,
         pair_line-length s.count s.groups,
-        flatten-length word_line_length group_lines group_lines_lem ∙ ap (λ (k : ℕ). word_line_length * k) (up_to-length s.groups (group_line_of s)),
+        flatten-length word_line_length group_lines group_lines_lem
+            ∙ ap (λ (k : ℕ). word_line_length * k) (up_to-length s.groups (group_line_of s)),
       )
 
   -- Line 0, and line 1 + g.

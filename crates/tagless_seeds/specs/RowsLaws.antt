@@ -1,6 +1,7 @@
 -- A group's rows in an array, and that the least word by them is the group's. Assumes nothing.
 use Rattle.std.specs.Prelude.{ℕ, zero, suc, ◌+◌, ◌*◌, ◌≤◌, ◌<◌, ◌≡◌, List, [], ◌∷◌, ◌++◌, map, length, get_or, take, drop, set}
-use Rattle.std.proofs.Common.{sym, ◌∙◌, append_assoc, add-one, arith, length-append, length-drop, take_at, take-suc, get_or-take, length-take-le}
+use Rattle.std.proofs.Common.{sym, ◌∙◌, append_assoc, add-one, arith, length-append, length-drop, take_at, take-suc}
+use Rattle.std.proofs.Common.{get_or-take, length-take-le}
 use Rattle.std.proofs.lemmas.Simd.{map-map}
 use Rattle.std.proofs.lemmas.List.{map-append}
 use Rattle.std.proofs.Math.ListN.{length-map}
@@ -76,7 +77,8 @@ module _
 
 -- One row more behind those of the first i tags.
 pub rows_more : (tags : List ℕ) (s i : ℕ) (before : List ℕ) → i < length tags → i < length before
-    → set (rows_under (take i tags) s ++ drop i before) i (row_of s (get_or tags i 0)) ≡ rows_under (take (i + 1) tags) s ++ drop (i + 1) before
+    → set (rows_under (take i tags) s ++ drop i before) i (row_of s (get_or tags i 0))
+    ≡ rows_under (take (i + 1) tags) s ++ drop (i + 1) before
 unfolding rows_under
 rows_more tags s i before lt room =
     written-front (map (row_of s) (take i tags)) before i (row_of s (get_or tags i 0))

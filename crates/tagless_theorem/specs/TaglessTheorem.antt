@@ -33,7 +33,8 @@ use Rattle.tagless_image.proofs.SheetLaws.{header_at, group_at_lem}
 use Rattle.tagless_image.specs.Lookup.{tagless_lookup_of}
 use Rattle.tagless_image.proofs.LookupLaws.{lookup-below}
 use Rattle.tagless.specs.Number.{tagless_number}
-use Rattle.tagless.specs.Building.{wordless, word_check, tagless_building_checks, tagless_building_of, tagless_seed, tagless_word, tagless_sheet_of}
+use Rattle.tagless.specs.Building.{wordless, word_check, tagless_building_checks, tagless_building_of, tagless_seed}
+use Rattle.tagless.specs.Building.{tagless_word, tagless_sheet_of}
 use Rattle.tagless.specs.Building.{tagless_image_of, tagless_after}
 use Rattle.tagless.proofs.BuildingLaws.{image-length, taken-least, none-taken, building-refused, building-answered, building-says}
 use Rattle.tagless.proofs.BuildingLaws.{building-seven, after-answered}
@@ -266,5 +267,6 @@ tagless-condition tags groups limit before = record {
   );
   otherwise = λ h never.
       building-answered tags groups limit (length before)
-      (pass_all tags groups limit (length before) (pass-of-earlier tags groups limit (length before) h) (none-of-never tags groups limit never));
+      (pass_all tags groups limit (length before) (pass-of-earlier tags groups limit (length before) h)
+      (none-of-never tags groups limit never));
 }
