@@ -2,7 +2,7 @@
  * checking, the strict check, lookup, placing a group and counting its parts under a seed; and the
  * index without tags: building, checking and lookup.
  *
- * The functions stand in libtag_index.a, for x86-64: `rt staticlib tag_index` writes it to
+ * The functions stand in libtag_index.a, for x86-64: `tools/staticlib` writes it to
  * target/staticlib/.
  *
  * What a caller owes, and nothing else: each pointer and length is a valid range of memory, the

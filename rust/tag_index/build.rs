@@ -22,7 +22,7 @@ fn main() {
     if !library.is_file() {
         eprintln!(
             "tag_index: there is no {}.\n\
-             `rt staticlib tag_index`, run at the repository's root, makes it; \
+             `tools/staticlib` of the repository makes it; \
              TAG_INDEX_LIB_DIR names another directory to take it from.",
             library.display()
         );

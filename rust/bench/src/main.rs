@@ -27,7 +27,7 @@ use std::io::{self, Read, Write};
 use std::path::Path;
 use std::process::ExitCode;
 
-/// Where `rt check printer` leaves the index printer.
+/// Where `tools/printer` leaves the index printer.
 const PRINTER: &str = concat!(env!("CARGO_MANIFEST_DIR"), "/../../target/bin/printer");
 
 fn main() -> ExitCode {
