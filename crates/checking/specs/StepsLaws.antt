@@ -21,7 +21,8 @@ use Rattle.text.proofs.LineLaws.{group-only}
 use Rattle.text.specs.TagLines.{tag_in, no_tag_from, passed, tags_stored}
 use Rattle.text.proofs.TagLinesLaws.{tag-slot, line_before, line-at, stored-length, stored-holds}
 use Rattle.image.specs.View.{View, view_of, count_in, groups_in, start_in, seed_in, end_in, slot_line_in, slot_in, faulty}
-use Rattle.image.specs.Checking.{opening_checks, malformed_in, holds_unwired, misplaced, repeated, number_checks, checking_checks, checking_of}
+use Rattle.image.specs.Checking.{opening_checks, malformed_in, holds_unwired, misplaced, repeated, number_checks, checking_checks}
+use Rattle.image.specs.Checking.{checking_of}
 use Rattle.image.proofs.FaultLaws.{fair-of-faulty}
 use Rattle.image.specs.SameNumbers.{SameNumbers}
 use Rattle.image.proofs.SameNumbersLaws.{same-unwired, same-faulty, same-misplaced, same-repeated}
@@ -107,7 +108,8 @@ module _ (image : List ℕ) {count groups : ℕ} (opens : Opens image count grou
   pub slot-lines : first (malformed_in (view_of image)) (1 + groups) ≡ none
       → first (no_tag_from (1 + groups) image) (1 + groups + count) ≡ first (malformed_in (view_of image)) (1 + groups + count)
   slot-lines before =
-      first_cong (no_tag_from (1 + groups) image) (malformed_in (view_of image)) (1 + groups + count) (λ k lt. line k (dec_lt k (1 + groups)))
+      first_cong (no_tag_from (1 + groups) image) (malformed_in (view_of image)) (1 + groups + count)
+        (λ k lt. line k (dec_lt k (1 + groups)))
     where
       line : (k : ℕ) → Dec (k < 1 + groups) → no_tag_from (1 + groups) image k ≡ malformed_in (view_of image) k
       line k (yes lt) =
