@@ -96,7 +96,8 @@ module _ (image : List ℕ) where
 
       module _ (end : ℕ) (ends : end_of (view_of image) g ≡ some end) where
         -- The group is faulty, ends past N, or its slots are looked at.
-        pub group-faulty : (faulty g start end || ltb (count_in (view_of image)) end) ≡ true → group_outcome (view_of image) t g ≡ refused 13 g
+        pub group-faulty : (faulty g start end || ltb (count_in (view_of image)) end) ≡ true
+            → group_outcome (view_of image) t g ≡ refused 13 g
         unfolding group_outcome
         group-faulty e = fault-refused (view_of image) g _ own ends e
 
