@@ -25,7 +25,8 @@ module _ (ends seeds slots : List ℕ) (groups count : ℕ) where
   line-length zero = pair_line-length count groups
   line-length (suc g) = go (ltb g groups)
     where
-      go : (b : Bool) → length (cond b (pair_line (part_start ends g) (get_or seeds g 0)) (tag_line (get_or slots (g - groups) 0))) ≡ line_length
+      go : (b : Bool)
+          → length (cond b (pair_line (part_start ends g) (get_or seeds g 0)) (tag_line (get_or slots (g - groups) 0))) ≡ line_length
       go true = pair_line-length (part_start ends g) (get_or seeds g 0)
       go false = tag_line-length (get_or slots (g - groups) 0)
 
