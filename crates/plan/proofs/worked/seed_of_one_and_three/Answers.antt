@@ -1,6 +1,5 @@
 -- `plan::worked::seed_of_one_and_three` meets its contract: by the promise of `plan_groups` the first cell has what the
 -- definition computes to. Assumes nothing.
-use borrow.Author.Rules.{rules}
 use mathlib.Core.Path.{◌≡◌, refl, ◌∙◌, ap}
 use mathlib.Core.List.{List, [], ◌∷◌}
 use mathlib.Core.Option
@@ -20,8 +19,7 @@ use Rattle.group.specs.Unwired.{FirstWired}
 use Rattle.numbering.specs.Parts.{part_start, part_of}
 use Rattle.lists.specs.UpTo.{up_to}
 use Rattle.plan.specs.Seeds.{unseeded, part_seed, seeds_found, Plannable}
-use Rattle.plan.proofs.worked.seed_of_one_and_three.Statement.{statement}
-use Rattle.plan.proofs.worked.seed_of_one_and_three.Tie as tie
+use Rattle.plan.proofs.worked.seed_of_one_and_three.Goals as goal
 
 -- The tags and where their part ends.
 abbrev tags : List ℕ
@@ -71,18 +69,8 @@ first_cell : (before : List ℕ) {cells : List ℕ} {o : Option ℕ} → o ≡ f
 unfolding seeds_found up_to
 first_cell before told found = ap (λ (l : List ℕ). get_or l 0 0) found ∙ rw (told, no-group-without) seed-is
 
-plan-groups-requires : tie.Need-plan-groups-requires
-plan-groups-requires c κs = (plannable, omega arith, refl)
+pub plan_groups-requires : goal.plan_groups-requires
+plan_groups-requires c = (plannable, omega arith, refl)
 
-returns : tie.Need-returns
-returns c = first_cell (replicate groups_max 0) c.plan-groups.ensures.0 c.plan-groups.ensures.1
-
-pub seed-of-one-and-three-spec : {M : Type 1} → statement M
-seed-of-one-and-three-spec =
-    tie.close
-    (tie.spec
-    (λ c. search rules)  -- slice-aggregate-plan-groups
-    (λ c. search rules)  -- slice-aggregate-plan-groups-2
-    plan-groups-requires
-    (λ c. search rules)  -- array-read-result
-    returns)
+pub returns : goal.returns
+returns c = record { answer = first_cell (replicate groups_max 0) c.plan_groups.ensures.answer c.plan_groups.ensures.seeds }
