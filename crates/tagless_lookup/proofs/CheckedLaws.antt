@@ -52,7 +52,8 @@ lookup-condition2 image t = record {
   finds = λ accepted. finds (ends image t accepted);
 }
   where
-    misses : Ends image t → (tagless_lookup_of image t ≡ answered unknown → Numberless image t) × (Numberless image t → tagless_lookup_of image t ≡ answered unknown)
+    misses : Ends image t → (tagless_lookup_of image t ≡ answered unknown → Numberless image t)
+        × (Numberless image t → tagless_lookup_of image t ≡ answered unknown)
     misses (missed none e) = (λ f. none, λ h. e)
     misses (found other j e) = (λ f. absurd (let z : ◌≡◌ {A = ℕ} 0 1 = cc in omega arith), λ h. absurd (other h))
 
