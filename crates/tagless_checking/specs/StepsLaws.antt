@@ -55,7 +55,8 @@ module _ (image : List ℕ) {count groups : ℕ} (opens : TaglessOpens image cou
   pub starts_none : (starts : List ℕ) → length starts ≡ groups_max + 1
       → StartsStored (tagless_view image) count groups 1 (set starts groups count)
   starts_none starts long = record {
-    start = filled_none (start_in (tagless_view image)) 1 (groups_max + 1) (set starts groups count) (length-set starts groups count ∙ long);
+    start = filled_none (start_in (tagless_view image)) 1 (groups_max + 1) (set starts groups count)
+        (length-set starts groups count ∙ long);
     end = get_or-set_same starts groups count 0 (omega (arith, opens.groups-legal));
   }
 
@@ -98,7 +99,8 @@ module _ (image : List ℕ) {count groups : ℕ} (opens : TaglessOpens image cou
 
 module _ (image : List ℕ) where
   -- An image that does not open.
-  pub check-unopened : {number place : ℕ} → tagless_opening_of image ≡ refused number place → tagless_checking_of image ≡ refused number place
+  pub check-unopened : {number place : ℕ} → tagless_opening_of image ≡ refused number place
+      → tagless_checking_of image ≡ refused number place
   unfolding tagless_checking_of tagless_checks
   check-unopened e = in_order-append (tagless_opening (tagless_view image)) _ _ ∙ opening-refused image e _
 
