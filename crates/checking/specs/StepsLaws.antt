@@ -232,7 +232,8 @@ unfolding number_checks
 same_numbers v w same = rw (same-unwired v w same, same-faulty v w same, same-misplaced v w same, same-repeated v w same)
 
 -- An image that does not open is refused so.
-pub check-unopened : (image : List ℕ) {number place : ℕ} → opening_of image ≡ refused number place → checking_of image ≡ refused number place
+pub check-unopened : (image : List ℕ) {number place : ℕ} → opening_of image ≡ refused number place
+    → checking_of image ≡ refused number place
 unfolding checking_of checking_checks
 check-unopened image e = in_order-append (opening_checks (view_of image)) _ _ ∙ opening-refused image e _
 

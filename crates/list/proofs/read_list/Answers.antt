@@ -131,7 +131,8 @@ returns c =
     let stored = rw none at c.read_tag_lines.ensures.cells in
     let tags = tag_count text in
     let both = reads text c.args.cells.now
-    (read-answered text _ full (found text head c.read_tag_lines.ensures.answer c.in_default-read_tag_lines.is) c.if-count-gt-TAGS_MAX.false c.if-cells-count.false)
+    (read-answered text _ full (found text head c.read_tag_lines.ensures.answer c.in_default-read_tag_lines.is)
+      c.if-count-gt-TAGS_MAX.false c.if-cells-count.false)
     (sym (ap answered (head-is text head)))
     (c.copy.ensures.cells ∙ rw (stored, stored-tags 1 text _ tags c.if-count-gt-TAGS_MAX.false, tags-on tags 1 text)) in
     record { answer = both.0; cells = both.1 }

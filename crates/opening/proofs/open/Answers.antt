@@ -12,7 +12,8 @@ unfolding line_at
 returns-in_default c =
     let image = c.args.image.now in
     record {
-      answer = sym (open-malformed image c.if-image-ge-LINE_LENGTH.true (sym c.read_image_header.ensures.answer ∙ ap pair_meaning c.in_default.is));
+      answer = sym (open-malformed image c.if-image-ge-LINE_LENGTH.true
+        (sym c.read_image_header.ensures.answer ∙ ap pair_meaning c.in_default.is));
     }
 
 pub overflow_add-groups : goal.overflow_add-groups

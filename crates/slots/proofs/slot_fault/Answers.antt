@@ -113,7 +113,8 @@ loop-g-preserved-then-j-end c =
           walk-repeated view c.loop-j.j fault c.loop-j.invariant.1.walked (sym w.fault_at.ensures.answer ∙ w.in-Repeated.is)
     ] in
     rw c.or_repeated-fault.ensures.answer
-      (next a.starts.now a.seeds.now a.tags.now a.groups c.requires c.loop-j.invariant.1 (or_repeated fault c.loop-j.j) c.loop-g-test.true below repeated)
+      (next a.starts.now a.seeds.now a.tags.now a.groups c.requires c.loop-j.invariant.1
+      (or_repeated fault c.loop-j.j) c.loop-g-test.true below repeated)
 
 pub loop-g-smaller : goal.loop-g-smaller
 loop-g-smaller c =
