@@ -1,6 +1,5 @@
 -- `tagless_plan::worked::word_of_one_and_three` meets its contract: by the promise of `word_groups` the first cell has the word that the
 -- definition gives. Assumes nothing.
-use borrow.Author.Rules.{rules}
 use mathlib.Core.Path.{◌≡◌, refl, ◌∙◌, ap}
 use mathlib.Core.List.{List, [], ◌∷◌}
 use mathlib.Core.Option
@@ -14,8 +13,7 @@ use Rattle.lists.specs.UpTo.{up_to}
 use Rattle.numbering.specs.Parts.{part_start, part_of}
 use Rattle.tagless_group.proofs.Worked.{seed-and-word}
 use Rattle.tagless_plan.specs.Words.{unworded, part_word, stored_up_to, Searchable}
-use Rattle.tagless_plan.proofs.worked.word_of_one_and_three.Statement.{statement}
-use Rattle.tagless_plan.proofs.worked.word_of_one_and_three.Tie as tie
+use Rattle.tagless_plan.proofs.worked.word_of_one_and_three.Goals as goal
 
 -- The tags and where their part ends.
 abbrev tags : List ℕ
@@ -55,18 +53,8 @@ first_cell : (before : List ℕ) {cells : List ℕ} {o : Option ℕ} → o ≡ f
 unfolding stored_up_to up_to
 first_cell before told found = ap (λ (l : List ℕ). get_or l 0 0) found ∙ rw (told, no-group-without) word-is
 
-word-groups-requires : tie.Need-word-groups-requires
-word-groups-requires c κs = ((searchable, omega arith), (refl, refl))
+pub word_groups-requires : goal.word_groups-requires
+word_groups-requires c = record { searchable = (searchable, omega arith); seeds_len = (refl, refl) }
 
-returns : tie.Need-returns
-returns c = first_cell (replicate groups_max 0) c.word-groups.ensures.0 c.word-groups.ensures.1.1
-
-pub word-of-one-and-three-spec : {M : Type 1} → statement M
-word-of-one-and-three-spec =
-    tie.close
-    (tie.spec
-    (λ c. search rules)  -- slice-aggregate-word-groups
-    (λ c. search rules)  -- slice-aggregate-word-groups-2
-    word-groups-requires
-    (λ c. search rules)  -- array-read-result
-    returns)
+pub returns : goal.returns
+returns c = record { answer = first_cell (replicate groups_max 0) c.word_groups.ensures.answer c.word_groups.ensures.words }
