@@ -1,6 +1,5 @@
 -- `tagless_write::worked::write_line_0` meets its contract, from the promise of `write_lines`: no group's line follows line 0.
 -- Assumes nothing.
-use borrow.Author.Rules.{rules}
 use mathlib.Core.Path.{◌≡◌, ◌∙◌, ap}
 use mathlib.Core.List.{List, [], ◌∷◌, ◌++◌, flatten, append-nil}
 use native.Mathlib.Omega.{arith}
@@ -10,8 +9,7 @@ use Rattle.lists.specs.UpTo.{up_to}
 use Rattle.text.specs.Line.{pair_line}
 use Rattle.tagless_image.specs.Sheet.{tagless_bytes, tagless_length}
 use Rattle.tagless_write.specs.Stated.{stated_sheet, Writable}
-use Rattle.tagless_write.proofs.worked.write_line_0.Statement.{statement}
-use Rattle.tagless_write.proofs.worked.write_line_0.Tie as tie
+use Rattle.tagless_write.proofs.worked.write_line_0.Goals as goal
 
 writable : (room : ℕ) → 11 ≤ room → Writable (0 ∷ []) (0 ∷ []) (0 ∷ []) 0 0 room
 unfolding tagless_length
@@ -30,19 +28,8 @@ line-0-only : (before : List ℕ)
 unfolding tagless_bytes tagless_length stated_sheet up_to flatten
 line-0-only before = ap (λ (line : List ℕ). line ++ drop 11 before) (append-nil (pair_line 0 0))
 
-write-lines-requires : tie.Need-write-lines-requires
-write-lines-requires c κs = writable _ c.before.before.before.before.before.requires
+pub write_lines-requires : goal.write_lines-requires
+write_lines-requires c = writable _ c.requires
 
-returns : tie.Need-returns
-returns c = c.before.before.write-lines.ensures ∙ line-0-only _
-
-pub write-line-0-spec : {M : Type 1} → statement M
-write-line-0-spec =
-    tie.close
-    (tie.spec
-    (λ c. search rules)  -- slice-aggregate-write-lines
-    (λ c. search rules)  -- slice-aggregate-write-lines-2
-    (λ c. search rules)  -- slice-aggregate-write-lines-3
-    write-lines-requires
-    (λ c. search rules)  -- same-length
-    returns)
+pub returns : goal.returns
+returns c = record { bytes = c.write_lines.ensures.bytes ∙ line-0-only _ }
