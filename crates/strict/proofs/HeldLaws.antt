@@ -11,7 +11,7 @@ use Rattle.std.proofs.Math.Option
 use Rattle.std.proofs.Math.Option.{Option, none, some}
 use Rattle.std.proofs.Math.ListN.{get_or}
 use borrow.Author.Tests.{eqb-true, not-false}
-use Rattle.refusal.specs.Limits.{group_max, seed_max, limit_max, tag_end, unwired}
+use Rattle.refusal.specs.Limits.{seed_max, limit_max, tag_end, unwired}
 use Rattle.refusal.specs.Outcome.{answered}
 use Rattle.refusal.proofs.ChecksLaws.{passed, false-of-met}
 use Rattle.lists.specs.First.{is_some}

@@ -7,7 +7,6 @@ use Rattle.std.proofs.Common.{sym, ◌∙◌, arith, take-append-drop, length-dr
 use Rattle.std.proofs.Math.Bool.{true, false}
 use mathlib.Core.List.{List, [], ◌∷◌}
 use Rattle.std.proofs.Math.Option
-use Rattle.std.proofs.Math.Option.{Option}
 use Rattle.std.proofs.Math.Dec.{ltb}
 use Rattle.std.proofs.Math.ListN.{get_or}
 use borrow.Author.Tests.{ltb-true, ltb-false}
