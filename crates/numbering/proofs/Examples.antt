@@ -20,7 +20,8 @@ use Rattle.numbering.specs.Building.{building_of}
 -- `unfolding computed` opens every definition that these compute through.
 computed : ℕ
 unfolding or_else outside followed_by first met_at up_to met in_order product high_part hashed group_of select members not_above
-    starts_unwired image_length plan_of planned_groups planned_seed earlier_checks planning_checks planning_of writing_checks writing_of building_of
+    starts_unwired image_length plan_of planned_groups planned_seed earlier_checks planning_checks planning_of writing_checks
+    writing_of building_of
 computed = 0
 
 -- One tag 4,097 times, which is too many tags, and not ascending; and one tag more than a group holds.
