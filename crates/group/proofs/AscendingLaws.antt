@@ -35,7 +35,8 @@ ascending-above tags up i (suc j) lt below = go (ltb i j) refl (λ l. ascending-
 pub ascending-distinct : (tags : List ℕ) → Ascending tags → distinct tags ≡ true
 ascending-distinct tags up = get_or-distinct tags (λ i j li lj e. go i j li lj e (ltb i j) (ltb j i) refl refl)
   where
-    go : (i j : ℕ) → i < length tags → j < length tags → get_or tags i 0 ≡ get_or tags j 0 → (p q : Bool) → ltb i j ≡ p → ltb j i ≡ q → i ≡ j
+    go : (i j : ℕ) → i < length tags → j < length tags → get_or tags i 0 ≡ get_or tags j 0
+        → (p q : Bool) → ltb i j ≡ p → ltb j i ≡ q → i ≡ j
     go i j li lj e true q f g = absurd (omega (arith, ascending-above tags up i j (ltb-true i j f) lj))
     go i j li lj e false true f g = absurd (omega (arith, ascending-above tags up j i (ltb-true j i g) li))
     go i j li lj e false false f g = omega (arith, ltb-false i j f, ltb-false j i g)
