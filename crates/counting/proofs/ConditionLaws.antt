@@ -77,7 +77,8 @@ module _ (tags : List ℕ) (seed : ℕ) where
   }
 
   -- Where the four checks pass, the condition leaves no other answer.
-  pub condition-decides : PartsChecks tags seed → {answer : Outcome Parts} → PartsCondition tags seed answer → answer ≡ counting_of tags seed
+  pub condition-decides : PartsChecks tags seed → {answer : Outcome Parts} → PartsCondition tags seed answer
+      → answer ≡ counting_of tags seed
   condition-decides h {answer} c =
       let (parts, told) = c.otherwise h in
       let (counts, is) = counting-condition.otherwise h in

@@ -18,7 +18,8 @@ use Rattle.counting.specs.Counting.{counting_checks, counting_of}
 
 -- `unfolding computed` opens every definition that these compute through.
 computed : ℕ
-unfolding or_else first met_at is_some met in_order up_to product high_part hashed multiplier place_of place_by both_places candidates not_above
+unfolding or_else first met_at is_some met in_order up_to product high_part hashed multiplier place_of place_by both_places candidates
+    not_above
     starts_unwired one how_many connected part_points part_edges more_edges lowest parts_of counting_checks counting_of
 computed = 0
 
