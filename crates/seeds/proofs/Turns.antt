@@ -18,7 +18,8 @@ use Rattle.refusal.specs.Limits.{group_max}
 use Rattle.filling.specs.Filling.{Key, place_by, Fills}
 use Rattle.filling.specs.Separate.{key_place}
 use Rattle.filling.proofs.WordLaws.{other-number}
-use Rattle.filling.specs.Eviction.{State, place_under, goal, occupant, start, seat_key, evict_key, Reached, started, seats, evicts, sequence_of}
+use Rattle.filling.specs.Eviction.{State, place_under, goal, occupant, start, seat_key, evict_key}
+use Rattle.filling.specs.Eviction.{Reached, started, seats, evicts, sequence_of}
 use Rattle.filling.proofs.EvictionLaws.{Has, replicate-zero, reached-choice, reached-among, reached-who, reached-cells, reached-goal}
 use Rattle.filling.proofs.EvictionLaws.{gives-up-none, seated-fills}
 use Rattle.group.specs.Group.{group_under, least_seed}
