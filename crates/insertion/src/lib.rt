@@ -29,7 +29,8 @@ pub enum Inserted {
 // The word of the sequence taken with key k, from that without it and the occupants under that: for each place 0, or one more than
 // the index of the key that has it. The cells become those under the word answered, and stay where there is none.
 pub fn with_key(places: &[u32], word: u32, k: u32, occupants: &mut [u32; MEMBER_CELLS]) -> Inserted
-    requires k_lt_group_max { (k < group_max) × Candidates places.now (k + 1) × (some word ≡ map word_of (sequence_taken (keys_of k places.now))) }
+    requires k_lt_group_max { (k < group_max) × Candidates places.now (k + 1)
+        × (some word ≡ map word_of (sequence_taken (keys_of k places.now))) }
     requires occupants_value { occupants.old ≡ occupants_of places.now word k }
     ensures answer { inserted_meaning result ≡ map word_of (sequence_taken (keys_of (k + 1) places.now)) }
     ensures cells { occupants.new ≡ occupants_after places.now k occupants.old (inserted_meaning result) }
@@ -57,7 +58,8 @@ pub fn with_key(places: &[u32], word: u32, k: u32, occupants: &mut [u32; MEMBER_
 
 // The lighter of the results of inserting key k with choice 0 and with choice 1.
 fn evicting(places: &[u32], word: u32, k: u32, occupants: &[u32]) -> Inserted
-    requires k_lt_group_max { (k < group_max) × Candidates places.now (k + 1) × (some word ≡ map word_of (sequence_taken (keys_of k places.now))) }
+    requires k_lt_group_max { (k < group_max) × Candidates places.now (k + 1)
+        × (some word ≡ map word_of (sequence_taken (keys_of k places.now))) }
     requires occupants_value { occupants.now ≡ occupants_of places.now word k }
     ensures answer { inserted_meaning result ≡ map word_of (sequence_taken (keys_of (k + 1) places.now)) }
 {
