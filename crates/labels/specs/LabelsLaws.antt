@@ -1,6 +1,8 @@
 -- The labels of the places in an array: at first each its own, and what one key more does to them. Assumes nothing.
-use Rattle.std.specs.Prelude.{ℕ, zero, suc, ◌+◌, ◌-◌, ◌≤◌, ◌<◌, ◌≡◌, refl, true, false, List, [], ◌∷◌, ◌++◌, map, length, get_or, set, take, drop}
-use Rattle.std.proofs.Common.{◌∙◌, ap, append_assoc, append-nil, add-zero, add-one, arith, drop-cons, take-suc, length-take-le, get_or-append-add, get_or-drop}
+use Rattle.std.specs.Prelude.{ℕ, zero, suc, ◌+◌, ◌-◌, ◌≤◌, ◌<◌, ◌≡◌, refl, true, false}
+use Rattle.std.specs.Prelude.{List, [], ◌∷◌, ◌++◌, map, length, get_or, set, take, drop}
+use Rattle.std.proofs.Common.{◌∙◌, ap, append_assoc, append-nil, add-zero, add-one, arith}
+use Rattle.std.proofs.Common.{drop-cons, take-suc, length-take-le, get_or-append-add, get_or-drop}
 use Rattle.std.proofs.lemmas.List.{map-append, length-map}
 use Rattle.std.proofs.Math.Seq.{drop-length, take-length}
 use Rattle.lists.specs.UpTo.{up_to}
