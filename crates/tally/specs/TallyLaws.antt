@@ -75,7 +75,8 @@ module _ {A : Type 0} (test : ℕ → A → Bool) (f : ℕ → A) (n : ℕ) wher
   unfolding by_label
   counted_start counts zeros = record {
     upto = omega arith;
-    counted = zeros ∙ ext_get_or 0 (replicate group_max 0) _ (length-replicate {A = ℕ} group_max 0 ∙ sym (up_to-length group_max _)) (λ r lt.
+    counted =
+        zeros ∙ ext_get_or 0 (replicate group_max 0) _ (length-replicate {A = ℕ} group_max 0 ∙ sym (up_to-length group_max _)) (λ r lt.
         let below : r < group_max = omega (arith, length-replicate {A = ℕ} group_max 0) in
         get_or-replicate group_max r 0 0 below ∙ sym (up_to-at group_max _ 0 r below ∙ how_many-empty (test r) f));
   }
@@ -199,7 +200,8 @@ module _ {places labels : List ℕ} {n : ℕ} (g : Graphed places labels n) wher
     tally-more : is_some (first (more counted edged) n) ≡ is_some (first (more_edges n keys) n)
     tally-more = go (first (more counted edged) n) refl
       where
-        go : (o : Option ℕ) → first (more counted edged) n ≡ o → is_some (first (more counted edged) n) ≡ is_some (first (more_edges n keys) n)
+        go : (o : Option ℕ) → first (more counted edged) n ≡ o
+            → is_some (first (more counted edged) n) ≡ is_some (first (more_edges n keys) n)
         go none out =
             is_some-of-none out
             ∙ sym (more-none (λ v lt. ltb-false (get_or counted v 0) (get_or edged v 0) (first-none (more counted edged) n out v lt)))
