@@ -85,11 +85,13 @@ module _ {part : List ℕ} {seed word room : ℕ} (a : Arrangeable part seed wor
 
   -- Cells that have each tag at its place, and no more cells, are the group's slots.
   pub slots-of-places : (cells : List ℕ) → length cells ≡ length part
-      → ((i : ℕ) → i < length part → get_or cells (place_with part seed i) 0 ≡ get_or part i 0) → cells ≡ group_slots part seed (taken part seed)
+      → ((i : ℕ) → i < length part → get_or cells (place_with part seed i) 0 ≡ get_or part i 0)
+      → cells ≡ group_slots part seed (taken part seed)
   unfolding group_slots
   slots-of-places cells l each =
       let place = place_in part seed (taken part seed) in
-      ext_get_or 0 cells (up_to (length part) (tag_numbered place part)) (l ∙ sym (up_to-length (length part) (tag_numbered place part))) (λ j lt.
+      ext_get_or 0 cells (up_to (length part) (tag_numbered place part))
+      (l ∙ sym (up_to-length (length part) (tag_numbered place part))) (λ j lt.
       let below : j < length part = omega arith in
       let has = tag_numbered-is place part j (place-reached j below) in
       let at = occurs-get_or part (tag_numbered place part j) has.0 in
