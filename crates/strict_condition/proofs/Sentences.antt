@@ -66,7 +66,8 @@ module _ {image : List ℕ} {answer : Outcome ℕ} (c : StrictCondition image an
       again = record { tags = tags; held = held; bytes = bytes; builds = builds-of builds }
 
       pub named-lowest : (g : ℕ) → answer ≡ refused 19 g
-          → (g < groups_in (view_of image)) × (lines_of image g ≡ lines_of bytes g → ⊥) × ((h : ℕ) → h < g → lines_of image h ≡ lines_of bytes h)
+          → (g < groups_in (view_of image)) × (lines_of image g ≡ lines_of bytes g → ⊥)
+          × ((h : ℕ) → h < g → lines_of image h ≡ lines_of bytes h)
       unfolding again
       named-lowest g e = let low = (c.lowest checked again g).0 e in (low.group, low.apart, low.lower)
 
