@@ -154,7 +154,8 @@ module _ (image : List ℕ) (accepted : checking_of image ≡ answered 0) where
     pub slots-differ : distinct (slots_in v g) ≡ true
     slots-differ = get_or-distinct (slots_in v g) apart
       where
-        apart : (i j : ℕ) → i < length (slots_in v g) → j < length (slots_in v g) → get_or (slots_in v g) i 0 ≡ get_or (slots_in v g) j 0 → i ≡ j
+        apart : (i j : ℕ) → i < length (slots_in v g) → j < length (slots_in v g)
+            → get_or (slots_in v g) i 0 ≡ get_or (slots_in v g) j 0 → i ≡ j
         apart i j li lj e =
             let bi = rw slots-size at li in
             let bj = rw slots-size at lj in
@@ -192,7 +193,8 @@ module _ (image : List ℕ) (accepted : checking_of image ≡ answered 0) where
             ≡ place_of (length tags) (seed_in v g) (choice_number choice) t = rw (tag, tags-size) in
             rw (place, ← same, ← e) at.value
 
-        go : (p ≡ place_of size (seed_in v g) 0 (slot_in v (start_in v g + p))) ⊎ (p ≡ place_of size (seed_in v g) 1 (slot_in v (start_in v g + p)))
+        go : (p ≡ place_of size (seed_in v g) 0 (slot_in v (start_in v g + p)))
+            ⊎ (p ≡ place_of size (seed_in v g) 1 (slot_in v (start_in v g + p)))
             → (choice : Bool) × Stands i choice
         go (inl e) = (false, takes false e)
         go (inr e) = (true, takes true e)

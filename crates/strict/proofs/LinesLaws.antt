@@ -102,7 +102,8 @@ module _ (image other : List ℕ) (a : checking_of image ≡ answered 0) (b : ch
     unfolding view_of seed_in slot_in slots_in
     numbers-of-lines e = (
       ap (λ (line : List ℕ). (Option.get_or (group_line line) (0, 0)).1) (ap (λ (lines : List (List ℕ)). get_or lines 0 []) e),
-      rw (← size_is) (up_to-agree (end_in w g - start_in w g) (λ p. slot_in v (start_in v g + p)) (λ p. slot_in w (start_in w g + p)) (λ p lt.
+      rw (← size_is) (up_to-agree (end_in w g - start_in w g) (λ p. slot_in v (start_in v g + p))
+          (λ p. slot_in w (start_in w g + p)) (λ p lt.
           ap (λ (line : List ℕ). Option.get_or (slot_line line) 0)
           (sym (up_to-at (end_in v g - start_in v g) (λ p. line_at (slot_line_in v (start_in v g + p)) image) [] p (rw size_is at lt))
           ∙ ap (λ (lines : List (List ℕ)). get_or lines (suc p) []) e

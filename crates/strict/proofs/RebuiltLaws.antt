@@ -125,7 +125,8 @@ module _ (image : List ℕ) (accepted : checking_of image ≡ answered 0) where
           let spot : start_in v g + p ≡ j = omega (arith, lies.from) in
           let below : p < end_in v g - start_in v g = omega (arith, lies.from, lies.below) in
           let size = slots-size image accepted g lt in
-          let tag : get_or (slots_in v g) p 0 ≡ t = slots_at_lem image accepted g lt p below ∙ ap (slot_in v) spot ∙ slot_in-reads v j h.tag in
+          let tag : get_or (slots_in v g) p 0 ≡ t =
+          slots_at_lem image accepted g lt p below ∙ ap (slot_in v) spot ∙ slot_in-reads v j h.tag in
           sorted-occurs t (slots_in v g) ∙ rw tag at (get_or-occurs (slots_in v g) p (rw size below))
 
       from : (t : ℕ) → occurs t (sorted (slots_in v g)) ≡ true → occurs t (members groups g held_tags) ≡ true
