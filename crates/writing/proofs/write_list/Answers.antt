@@ -128,7 +128,8 @@ returns-then-starts_unwired c =
     let p8 = passed-8 c.args.tags.now c.args.plan.now c.args.buffer.now c.outside.ensures.answer c.if-outside.false in
     let p2 = passed-2 c.args.tags.now c.args.plan.now c.args.buffer.now p8 c.first_seed_above.ensures.answer c.in_default.is in
     let p5 = passed-5 c.args.tags.now c.args.plan.now c.args.buffer.now p2 c.if-tags-gt-TAGS_MAX.false in
-    let p6 = passed-6 c.args.tags.now c.args.plan.now c.args.buffer.now p5 c.first_not_above.ensures.answer c.in_default-first_not_above.is in
+    let p6 = passed-6 c.args.tags.now c.args.plan.now c.args.buffer.now p5
+      c.first_not_above.ensures.answer c.in_default-first_not_above.is in
     let both = due c.args.tags.now c.args.plan.now c.args.buffer.now
       (λ i. omega (arith, c.type_inv.tags i)) 17 c.refuse-then-starts_unwired.ensures.answer p6
     (met-true (sym c.starts_unwired.ensures.answer ∙ c.if-starts_unwired.true)) in
@@ -146,7 +147,8 @@ returns-then-buffer-image_length c =
     let p8 = passed-8 c.args.tags.now c.args.plan.now c.args.buffer.now c.outside.ensures.answer c.if-outside.false in
     let p2 = passed-2 c.args.tags.now c.args.plan.now c.args.buffer.now p8 c.first_seed_above.ensures.answer c.in_default.is in
     let p5 = passed-5 c.args.tags.now c.args.plan.now c.args.buffer.now p2 c.if-tags-gt-TAGS_MAX.false in
-    let p6 = passed-6 c.args.tags.now c.args.plan.now c.args.buffer.now p5 c.first_not_above.ensures.answer c.in_default-first_not_above.is in
+    let p6 = passed-6 c.args.tags.now c.args.plan.now c.args.buffer.now p5
+      c.first_not_above.ensures.answer c.in_default-first_not_above.is in
     let p17 = passed-17 c.args.tags.now c.args.plan.now c.args.buffer.now p6 c.starts_unwired.ensures.answer c.if-starts_unwired.false in
     let both = due c.args.tags.now c.args.plan.now c.args.buffer.now
       (λ i. omega (arith, c.type_inv.tags i)) 9 c.refuse-then-buffer-image_length.ensures.answer p17
@@ -159,7 +161,8 @@ write_admitted-requires c =
     let p8 = passed-8 c.args.tags.now c.args.plan.now c.args.buffer.now c.outside.ensures.answer c.if-outside.false in
     let p2 = passed-2 c.args.tags.now c.args.plan.now c.args.buffer.now p8 c.first_seed_above.ensures.answer c.in_default.is in
     let p5 = passed-5 c.args.tags.now c.args.plan.now c.args.buffer.now p2 c.if-tags-gt-TAGS_MAX.false in
-    let p6 = passed-6 c.args.tags.now c.args.plan.now c.args.buffer.now p5 c.first_not_above.ensures.answer c.in_default-first_not_above.is in
+    let p6 = passed-6 c.args.tags.now c.args.plan.now c.args.buffer.now p5
+      c.first_not_above.ensures.answer c.in_default-first_not_above.is in
     let p17 = passed-17 c.args.tags.now c.args.plan.now c.args.buffer.now p6 c.starts_unwired.ensures.answer c.if-starts_unwired.false in
     let p9 = passed-9 c.args.tags.now c.args.plan.now c.args.buffer.now p17 c.image_length.ensures.answer c.if-buffer-image_length.false in
     record { groups-are = refl; cells = search rules; passes = p9 }
