@@ -122,7 +122,8 @@ module _ {tags : List ℕ} {groups limit : ℕ} {ordered ends : List ℕ} {room 
     written-bytes buffer = rw (written-image, image-length groups tags limit)
 
   -- Where every group has a word the answer is the length.
-  pub size-answered : first (wordless groups tags limit) groups ≡ none → tagless_building_of tags groups limit room ≡ answered (tagless_length groups)
+  pub size-answered : first (wordless groups tags limit) groups ≡ none
+      → tagless_building_of tags groups limit room ≡ answered (tagless_length groups)
   unfolding tagless_building_checks
   size-answered every =
       building-answered tags groups limit room
