@@ -1,6 +1,5 @@
 -- `claim::worked::number_of_one` meets its contract: by the promise of `build_then_look_up` the answer is what the definition
 -- computes to. Assumes nothing.
-use borrow.Author.Rules.{rules}
 use mathlib.Core.Path.{◌≡◌, refl, ◌∙◌}
 use mathlib.Core.List.{[], ◌∷◌}
 use mathlib.Core.Option.{or_else}
@@ -30,8 +29,7 @@ use Rattle.numbering.specs.Writing.{choices_under, writing_checks, writing_of}
 use Rattle.numbering.specs.Building.{building_of}
 use Rattle.lists.specs.UpTo.{up_to}
 use Rattle.claim.specs.Claim.{found_in, claim_of}
-use Rattle.claim.proofs.worked.number_of_one.Statement.{statement}
-use Rattle.claim.proofs.worked.number_of_one.Tie as tie
+use Rattle.claim.proofs.worked.number_of_one.Goals as goal
 
 computed : claim_of (1 ∷ 2 ∷ []) 1 1 44 1 ≡ answered (number 1)
 unfolding or_else outside followed_by first met_at is_some met in_order product high_part hashed group_of multiplier
@@ -51,31 +49,17 @@ not-unknown e = let z : ◌≡◌ {A = ℕ} 0 1 = cc in omega arith
 not-refused : {reason place : ℕ} → refused reason place ≡ answered (number 1) → ⊥
 not-refused e = let z : ◌≡◌ {A = ℕ} 0 1 = cc in omega arith
 
-returns : tie.Need-returns
-returns c =
-    let promised = rw c.before.j.given.1 at c.before.before.before.before.build-then-look-up.ensures.0 in
-    same (promised ∙ computed)
+pub returns-in-Number : goal.returns-in-Number
+returns-in-Number c =
+    let promised = rw c.in-Number.is at c.build_then_look_up.ensures.answer in
+    record { answer = same (promised ∙ computed) }
 
-returns-2 : tie.Need-returns-2
-returns-2 c =
-    let promised = rw c.enum_told.given.1 at c.before.before.before.build-then-look-up.ensures.0 in
-    absurd (not-unknown (promised ∙ computed))
+pub returns-in-Unknown : goal.returns-in-Unknown
+returns-in-Unknown c =
+    let promised = rw c.in-Unknown.is at c.build_then_look_up.ensures.answer in
+    record { answer = absurd (not-unknown (promised ∙ computed)) }
 
-returns-3 : tie.Need-returns-3
-returns-3 c =
-    let promised = rw c.enum-told2.given.1 at c.before.before.before.build-then-look-up.ensures.0 in
-    absurd (not-refused (promised ∙ computed))
-
-pub number-of-one-spec : {M : Type 1} → statement M
-number-of-one-spec =
-    tie.close
-    (tie.spec
-    (λ c. search rules)  -- slice-aggregate-build-then-look-up
-    (λ c. search rules)  -- slice-aggregate-build-then-look-up-2
-    (λ c κs. search rules)  -- build-then-look-up-requires
-    (λ c. search rules)  -- enum-known-j
-    (λ c. search rules)  -- enum_told
-    (λ c. search rules)  -- enum-told-2
-    returns
-    returns-2
-    returns-3)
+pub returns-in-Refused : goal.returns-in-Refused
+returns-in-Refused c =
+    let promised = rw c.in-Refused.is at c.build_then_look_up.ensures.answer in
+    record { answer = absurd (not-refused (promised ∙ computed)) }
