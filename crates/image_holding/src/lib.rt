@@ -1,0 +1,2 @@
+// Definitions only.
+#![tactic(auto)]
