@@ -38,7 +38,8 @@ tagless-text-place text room =
     (λ listed. building-place listed.tags listed.groups listed.limit room)
 
 -- The longest image has 512 groups.
-pub answered-most : (tags : List ℕ) (groups limit room : ℕ) {size : ℕ} → tagless_building_of tags groups limit room ≡ answered size → size ≤ 10763
+pub answered-most : (tags : List ℕ) (groups limit room : ℕ) {size : ℕ} → tagless_building_of tags groups limit room ≡ answered size
+    → size ≤ 10763
 unfolding tagless_building_checks tagless_length
 answered-most tags groups limit room e =
     let (passes, is) = building-says tags groups limit room e in

@@ -1,6 +1,5 @@
 -- `tagless_from_text::worked::build_from_nothing` meets its contract, from the promise of `build_from_text`: no bytes are no line 0.
 -- Assumes nothing.
-use borrow.Author.Rules.{rules}
 use mathlib.Core.Path.{◌≡◌, refl, ◌∙◌}
 use mathlib.Core.List.{List, []}
 use mathlib.Core.Option.{or_else}
@@ -11,8 +10,7 @@ use Rattle.refusal.specs.Checks.{met, in_order}
 use Rattle.list.specs.Reading.{reading_checks, reading_of}
 use Rattle.numbering.specs.FromText.{list_from_text}
 use Rattle.tagless.specs.FromText.{tagless_from_text, tagless_buffer_from_text}
-use Rattle.tagless_from_text.proofs.worked.build_from_nothing.Statement.{statement}
-use Rattle.tagless_from_text.proofs.worked.build_from_nothing.Tie as tie
+use Rattle.tagless_from_text.proofs.worked.build_from_nothing.Goals as goal
 
 nothing-refused : (room : ℕ) → tagless_from_text [] room ≡ refused 16 0
 unfolding tagless_from_text followed_by list_from_text in_order met met_at or_else reading_of reading_checks
@@ -22,16 +20,9 @@ nothing_written : (before : List ℕ) → tagless_buffer_from_text [] before ≡
 unfolding tagless_buffer_from_text on_answer list_from_text in_order met met_at or_else reading_of reading_checks
 nothing_written before = refl
 
-returns : tie.Need-returns
-returns c =
-    let built = c.before.before in
-    (built.build-from-text.ensures.0 ∙ nothing-refused _, built.build-from-text.ensures.1.0 ∙ nothing_written _)
-
-pub build-from-nothing-spec : {M : Type 1} → statement M
-build-from-nothing-spec =
-    tie.close
-    (tie.spec
-    (λ c. search rules)  -- slice-aggregate-build-from-text
-    (λ c κs. search rules)  -- build-from-text-requires
-    (λ c. search rules)  -- same-length
-    returns)
+pub returns : goal.returns
+returns c = record {
+  answer = c.build_from_text.ensures.answer ∙ nothing-refused _;
+  kept = c.build_from_text.ensures.bytes
+      ∙ nothing_written _;
+}
