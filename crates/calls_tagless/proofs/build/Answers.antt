@@ -1,6 +1,5 @@
 -- `calls_tagless::build` meets its contract: the answer is the outcome's, and a refusal's place is a line, an index or a group.
 -- Assumes nothing.
-use borrow.Author.Rules.{rules}
 use mathlib.Core.Path.{◌≡◌, sym, ◌∙◌, ap}
 use mathlib.Core.List.{List}
 use Prim.Native.Nat.{ℕ}
@@ -19,15 +18,12 @@ use Rattle.answer64.specs.Answer64.{answer64}
 use Rattle.answer64.proofs.Answer64Laws.{promised64}
 use Rattle.calls_tagless.specs.Tagless.{tagless_build_answer, TaglessBuildCondition}
 use Rattle.calls_tagless.specs.TaglessLaws.{tagless-build-fits}
-use Rattle.calls_tagless.proofs.build.Statement.{statement}
-use Rattle.calls_tagless.proofs.build.Tie as tie
+use Rattle.calls_tagless.proofs.build.Goals as goal
 
-refusal-answer-requires : tie.Need-refusal-answer-requires
-refusal-answer-requires c κs =
-    let told = c.before in
-    let built = told.before.before.before.before in
-    let a = built.before.before.before.before.args in
-    let refused = sym built.build-from-text.ensures.0 ∙ ap build_outcome told.refusal.given.1 in
+pub refusal_answer-requires : goal.refusal_answer-requires
+refusal_answer-requires c =
+    let a = c.args in
+    let refused = sym c.build_from_text.ensures.answer ∙ ap build_outcome c.in-Refused.is in
     omega (arith, place-below text_lines (tagless-text-place a.text.now _) refused)
 
 -- The answer, the bytes, and the condition of the answer.
@@ -40,29 +36,19 @@ promised text before after r outcome (told, (bytes, condition)) answer =
     promised64 _ (tagless-build-fits text (length before)) (λ o. TextTaglessCondition text (length before) o after) told answer condition in
     (is, (bytes, of-answer))
 
-returns : tie.Need-returns
+pub returns-in-Built : goal.returns-in-Built
 unfolding answer64
-returns c =
-    let told = c.before in
-    let built = told.before.before.before.before in
-    promised _ _ _ _ _ built.build-from-text.ensures (ap (λ (x : BuildAnswer). answer64 (build_outcome x)) (sym told.size.given.1))
+returns-in-Built c =
+    let a = c.args in
+    let built = c.build_from_text.ensures in
+    let is = ap (λ (x : BuildAnswer). answer64 (build_outcome x)) (sym c.in-Built.is) in
+    let p = promised a.text.now a.image.now _ _ _ (built.answer, (built.bytes, built.condition)) is in
+    record { answer = p.0; bytes = p.1.0; condition = p.1.1 }
 
-returns-2 : tie.Need-returns-2
-returns-2 c =
-    let told = c.before.before in
-    let built = told.before.before.before.before in
-    promised _ _ _ _ _ built.build-from-text.ensures
-    (c.refusal-answer.ensures ∙ ap (λ (x : BuildAnswer). answer64 (build_outcome x)) (sym told.refusal.given.1))
-
-pub build-spec : {M : Type 1} → statement M
-build-spec =
-    tie.close
-    (tie.spec
-    (λ c κs. search rules)  -- build-from-text-requires
-    (λ c. search rules)  -- enum-known-size
-    (λ c. search rules)  -- enum-known-refusal
-    refusal-answer-requires
-    (λ c. search rules)  -- same-length
-    returns
-    (λ c. search rules)  -- same-length-2
-    returns-2)
+pub returns-in-Refused : goal.returns-in-Refused
+returns-in-Refused c =
+    let a = c.args in
+    let built = c.build_from_text.ensures in
+    let is = c.refusal_answer.ensures.answer ∙ ap (λ (x : BuildAnswer). answer64 (build_outcome x)) (sym c.in-Refused.is) in
+    let p = promised a.text.now a.image.now _ _ _ (built.answer, (built.bytes, built.condition)) is in
+    record { answer = p.0; bytes = p.1.0; condition = p.1.1 }

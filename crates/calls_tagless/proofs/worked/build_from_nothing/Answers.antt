@@ -1,6 +1,5 @@
 -- `calls_tagless::worked::build_from_nothing` meets its contract, from the promise of `build`: no bytes are no line 0.
 -- Assumes nothing.
-use borrow.Author.Rules.{rules}
 use mathlib.Core.Path.{◌≡◌, refl, ◌∙◌}
 use mathlib.Core.List.{List, []}
 use mathlib.Core.Option.{or_else}
@@ -13,8 +12,7 @@ use Rattle.numbering.specs.FromText.{list_from_text}
 use Rattle.tagless.specs.FromText.{tagless_from_text, tagless_buffer_from_text}
 use Rattle.answer64.specs.Answer64.{answer64}
 use Rattle.calls_tagless.specs.Tagless.{tagless_build_answer}
-use Rattle.calls_tagless.proofs.worked.build_from_nothing.Statement.{statement}
-use Rattle.calls_tagless.proofs.worked.build_from_nothing.Tie as tie
+use Rattle.calls_tagless.proofs.worked.build_from_nothing.Goals as goal
 
 nothing-refused : (room : ℕ) → tagless_build_answer [] room ≡ 68719476736
 unfolding tagless_build_answer answer64 tagless_from_text followed_by list_from_text in_order met met_at or_else reading_of reading_checks
@@ -24,15 +22,5 @@ nothing_written : (before : List ℕ) → tagless_buffer_from_text [] before ≡
 unfolding tagless_buffer_from_text on_answer list_from_text in_order met met_at or_else reading_of reading_checks
 nothing_written before = refl
 
-returns : tie.Need-returns
-returns c =
-    let built = c.before.before.build.ensures in (built.0 ∙ nothing-refused _, built.1.0 ∙ nothing_written _)
-
-pub build-from-nothing-spec : {M : Type 1} → statement M
-build-from-nothing-spec =
-    tie.close
-    (tie.spec
-    (λ c. search rules)  -- slice-aggregate-build
-    (λ c κs. search rules)  -- build-requires
-    (λ c. search rules)  -- same-length
-    returns)
+pub returns : goal.returns
+returns c = let built = c.build.ensures in record { answer = built.answer ∙ nothing-refused _; kept = built.bytes ∙ nothing_written _ }
