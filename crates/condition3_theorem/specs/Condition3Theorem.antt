@@ -318,8 +318,8 @@ module _ (tags plan : List ℕ) (words : (t : ℕ) → occurs t tags ≡ true �
       (take_at image (drop (length image) before) size (image-length (planned_groups plan) tags (planned_seed plan) ∙ is)))
 
   -- What writing writes is accepted by checking.
-  pub written-checked : (room : ℕ) {size : ℕ} → writing_of tags plan room ≡ answered size → checking_of
-    (planned_image tags plan) ≡ answered 0
+  pub written-checked : (room : ℕ) {size : ℕ} → writing_of tags plan room ≡ answered size
+      → checking_of (planned_image tags plan) ≡ answered 0
   unfolding planned_image
   written-checked room e = seeded-checked words (seeded-ready (ready-of-pass tags plan room (writing-says tags plan room e).0))
 

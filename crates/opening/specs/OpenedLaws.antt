@@ -25,8 +25,8 @@ module _ (whole : ℕ) (v : View) where
   refused-for e o = refused-in_order (opening_for whole v) o (in_order-refused (opening_for whole v) _ e)
 
   -- Behind an image that opens, what follows decides.
-  pub passes-for : {A : Type 0} {counts : ℕ × ℕ} → opened_for whole v ≡ answered counts → (o : Outcome A) → in_order
-    (opening_for whole v) o ≡ o
+  pub passes-for : {A : Type 0} {counts : ℕ × ℕ} → opened_for whole v ≡ answered counts → (o : Outcome A)
+      → in_order (opening_for whole v) o ≡ o
   passes-for e o = in_order-pass (opening_for whole v) o (in_order-answered (opening_for whole v) _ e).0
 
   -- Its length is the one stated, and its line 0 states the counts.
@@ -38,8 +38,8 @@ module _ (whole : ℕ) (v : View) where
         go pair reads (cc),
       )
     where
-      go : (pair : ℕ × ℕ) → v.header ≡ some pair → ◌≡◌ {A = ℕ × ℕ} (count_in v, groups_in v) (count, groups) → v.header ≡ some
-        (count, groups)
+      go : (pair : ℕ × ℕ) → v.header ≡ some pair → ◌≡◌ {A = ℕ × ℕ} (count_in v, groups_in v) (count, groups)
+          → v.header ≡ some (count, groups)
       go (n, b) reads same =
           let counts = counts-in v reads in
           let n-is : n ≡ count = sym counts.0 ∙ ap (λ (c : ℕ × ℕ). c.0) same in
