@@ -109,7 +109,7 @@ module _ (image : List ℕ) {count groups : ℕ} (opens : Opens image count grou
       → first (no_tag_from (1 + groups) image) (1 + groups + count) ≡ first (malformed_in (view_of image)) (1 + groups + count)
   slot-lines before =
       first_cong (no_tag_from (1 + groups) image) (malformed_in (view_of image)) (1 + groups + count)
-        (λ k lt. line k (dec_lt k (1 + groups)))
+      (λ k lt. line k (dec_lt k (1 + groups)))
     where
       line : (k : ℕ) → Dec (k < 1 + groups) → no_tag_from (1 + groups) image k ≡ malformed_in (view_of image) k
       line k (yes lt) =

@@ -109,7 +109,7 @@ module _ {v : View} {groups : ℕ} {tags : List ℕ} {seed : ℕ → ℕ} {choic
   -- A tag's two slots are its group's start plus its two places.
   slot_of : (c t : ℕ) → candidate_in v (group_of groups t) c t
       ≡ start_of groups (group_of groups t) tags
-        + place_of (length (members groups (group_of groups t) tags)) (seed (group_of groups t)) c t
+      + place_of (length (members groups (group_of groups t) tags)) (seed (group_of groups t)) c t
   unfolding candidate_in
   slot_of c t =
       let g = group_of groups t in

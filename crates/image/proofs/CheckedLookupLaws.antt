@@ -261,7 +261,7 @@ module _ (v : View) (sound : Sound v) (many : 0 < groups_in v) where
             at_slots u₀ u₁ reads₀ reads₁ (slot-inside 0 filled) (slot-inside 1 filled) (eqb u₀ t) (eqb u₁ t) refl refl ends
           where
             at_slots : (u₀ u₁ : ℕ) → v.slot_at (slot_line_in v (own_slot v 0 t)) ≡ some u₀ → v.slot_at
-              (slot_line_in v (own_slot v 1 t)) ≡ some u₁
+                (slot_line_in v (own_slot v 1 t)) ≡ some u₁
                 → own_slot v 0 t < count_in v → own_slot v 1 t < count_in v
                 → (p q : Bool) → eqb u₀ t ≡ p → eqb u₁ t ≡ q
                 → outcome ≡ cond (eqb u₀ t) (answered (number (own_slot v 0 t)))

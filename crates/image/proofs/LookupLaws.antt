@@ -92,7 +92,7 @@ module _ (v w : View) (t : ℕ) (wired : t ≡ unwired → ⊥) (same_size : v.s
           line = same.slot ∙ rw (same_place c)
 
           held : met_at (slot_line_in v (candidate_in v own c t))
-            (not (is_some (v.slot_at (slot_line_in v (candidate_in v own c t))))) ≡ none
+              (not (is_some (v.slot_at (slot_line_in v (candidate_in v own c t))))) ≡ none
               → cond (eqb (get_or (v.slot_at (slot_line_in v (candidate_in v own c t))) 0) t) (answered (number (candidate_in v own c t))) o
               ≡ cond (eqb (get_or (w.slot_at (slot_line_in w (candidate_in w own c t))) 0) t) (answered (number (candidate_in w own c t))) p
           held passes =
@@ -101,7 +101,7 @@ module _ (v w : View) (t : ℕ) (wired : t ≡ unwired → ⊥) (same_size : v.s
             where
               go : (u : ℕ) → v.slot_at (slot_line_in v (candidate_in v own c t)) ≡ some u → (b : Bool) → eqb u t ≡ b
                   → cond (eqb u t) (answered (number (candidate_in v own c t))) o ≡ cond (eqb u t)
-                    (answered (number (candidate_in v own c t))) p
+                  (answered (number (candidate_in v own c t))) p
               go u reads true e = rw e
               go u reads false e = rw e (next u reads (eqb-false u t e))
 
@@ -150,7 +150,7 @@ lookup-depends p q t size read = by-wired t nobody (λ wired. lookup-wired p t w
         rw zero (lookup-unwired p ∙ ap (λ (checks : List Check). in_order checks (answered unknown)) opening ∙ sym (lookup-unwired q))
 
     in_group : (t ≡ unwired → ⊥) → lookup_in_group (view_of p) t (own_group (view_of p) t) ≡ lookup_in_group (view_of q) t
-      (own_group (view_of q) t)
+        (own_group (view_of q) t)
     in_group wired = lookup-agrees (view_of p) (view_of q) t wired size record {
       header = agree 0 read.header;
       own = λ wired opens. agree _ (read.own wired opens);
@@ -193,7 +193,7 @@ view-any v t j e =
     let ((a, (b, (c, (d, (f, (group, end)))))), e') = in_order-answered (lookup_checks v g) _ e in
     let (fine, ends) = neither-of-or (faulty g (start_in v g) (end_in v g)) (ltb (count_in v) (end_in v g)) (false-of-met_at g _ group) in
     go (fair-of-faulty g (start_in v g) (end_in v g) fine) (ltb-false (count_in v) (end_in v g) ends)
-      (eqb (start_in v g) (end_in v g)) refl e'
+    (eqb (start_in v g) (end_in v g)) refl e'
   where
     g : ℕ
     g = own_group v t

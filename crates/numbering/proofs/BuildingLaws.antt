@@ -137,7 +137,7 @@ buffer-after tags groups limit before = go (planning_of tags groups limit) refl
   where
     go : (o : Outcome ℕ) → planning_of tags groups limit ≡ o
         → buffer_after tags groups limit before ≡ written (building_of tags groups limit (length before))
-          (image_of groups tags limit) before
+        (image_of groups tags limit) before
     go (answered planned) e =
         let (passes, every, is) = planning-says tags groups limit e in
         buffer-as-written tags groups limit before e

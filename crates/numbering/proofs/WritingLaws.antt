@@ -52,7 +52,7 @@ pub record Fit (tags plan : List ℕ) (room : ℕ) : Type 0 where
 pub record Ready (tags plan : List ℕ) (room : ℕ) : Type 0 where
   pub fit : Fit tags plan room
   pub filled : (g : ℕ) → g < planned_groups plan → feasible
-    (group_under (members (planned_groups plan) g tags) (planned_seed plan g)) ≡ true
+      (group_under (members (planned_groups plan) g tags) (planned_seed plan g)) ≡ true
 
 module _ (tags plan : List ℕ) (room : ℕ) where
   abbrev checks : List Check

@@ -23,7 +23,7 @@ group = 1 ∷ 3 ∷ []
 -- Under seed 0 nothing fills.
 seed-0 : feasible (group_under group 0) ≡ false
 unfolding feasible is_some least least_from beginning occurs place_by candidates both_places place_of
-  hashed high_part product multiplier or_else
+    hashed high_part product multiplier or_else
 seed-0 = refl
 
 -- Under seed 1 word 0 does not fill, and word 1 does.

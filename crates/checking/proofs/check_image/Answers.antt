@@ -6,8 +6,11 @@ use Rattle.checking.specs.StepsLaws.{check-unopened}
 use Rattle.checking.proofs.check_image.Goals as goal
 
 pub check_opened-requires : goal.check_opened-requires
-check_opened-requires c = record { image_value = sym c.open.ensures.answer ∙ ap opened_outcome c.in-Counts.is; starts_len =
-    (refl, refl, refl) }
+check_opened-requires c = record {
+  image_value = sym c.open.ensures.answer ∙ ap opened_outcome c.in-Counts.is;
+  starts_len =
+      (refl, refl, refl);
+}
 
 pub returns-in-Refused : goal.returns-in-Refused
 returns-in-Refused c =

@@ -7,8 +7,11 @@ use Rattle.checking.specs.StepsLaws.{check-group-line, check-line, check-numbers
 use Rattle.checking.proofs.check_opened.Goals as goal
 
 pub read_group_lines-requires : goal.read_group_lines-requires
-read_group_lines-requires c = record { opens = opening-answered c.args.image.now c.requires.image_value; starts_len =
-    (c.requires.starts_len.0, c.requires.starts_len.1) }
+read_group_lines-requires c = record {
+  opens = opening-answered c.args.image.now c.requires.image_value;
+  starts_len =
+      (c.requires.starts_len.0, c.requires.starts_len.1);
+}
 
 pub returns-in-At : goal.returns-in-At
 returns-in-At c =

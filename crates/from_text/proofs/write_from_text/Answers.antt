@@ -30,7 +30,7 @@ pub returns-in-Listed : goal.returns-in-Listed
 returns-in-Listed c =
     let e = c.write_list.ensures in
     let all = write_read _ _ _ (read _ _ c.read_text.ensures.answer c.in-Listed.is c.read_text.ensures.cells).outcome
-      (e.answer, (e.bytes, e.condition3)) in
+    (e.answer, (e.bytes, e.condition3)) in
     record { answer = all.0; bytes = all.1.0; condition3 = all.1.1 }
 
 pub returns-in-Refused : goal.returns-in-Refused

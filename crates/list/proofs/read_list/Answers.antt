@@ -67,7 +67,7 @@ returns-then-text-ne0 c =
     let a = c.args in
     let text = a.text.now in
     let both = refuses text a.cells.now
-      (read-uneven text _ c.if-text-lt-LINE_LENGTH.false c.if-text-ne0.true) c.malformed-then-text-ne0.ensures.answer in
+    (read-uneven text _ c.if-text-lt-LINE_LENGTH.false c.if-text-ne0.true) c.malformed-then-text-ne0.ensures.answer in
     record { answer = both.0; cells = both.1 }
 
 pub returns-in_default : goal.returns-in_default
@@ -132,7 +132,7 @@ returns c =
     let tags = tag_count text in
     let both = reads text c.args.cells.now
     (read-answered text _ full (found text head c.read_tag_lines.ensures.answer c.in_default-read_tag_lines.is)
-      c.if-count-gt-TAGS_MAX.false c.if-cells-count.false)
+    c.if-count-gt-TAGS_MAX.false c.if-cells-count.false)
     (sym (ap answered (head-is text head)))
     (c.copy.ensures.cells ∙ rw (stored, stored-tags 1 text _ tags c.if-count-gt-TAGS_MAX.false, tags-on tags 1 text)) in
     record { answer = both.0; cells = both.1 }

@@ -13,7 +13,7 @@ returns-in_default c =
     let image = c.args.image.now in
     record {
       answer = sym (open-malformed image c.if-image-ge-LINE_LENGTH.true
-        (sym c.read_image_header.ensures.answer ∙ ap pair_meaning c.in_default.is));
+          (sym c.read_image_header.ensures.answer ∙ ap pair_meaning c.in_default.is));
     }
 
 pub overflow_add-groups : goal.overflow_add-groups

@@ -28,10 +28,10 @@ loop-done-preserved g c =
     let within = c.loop-done.invariant.1 in
     let part = slice_range-put_mid from room count c.loop-done.buffer c.read.new.buf within c.in_ok-count.ensures.bound.0 in
     let joined =
-        take_split from (from + count) c.loop-done.buffer (put_mid from room c.loop-done.buffer c.read.new.buf) (omega arith)
-        (take-put_mid_below _ _ _ _ _ (le_refl _) within) in
-    ( search rules
-    , search rules
-    , subst (Consumes _ _) (ap (λ l. take from c.loop-done.buffer ++ l) (sym part) ∙ joined)
-      (Consumes-trans _ _ _ _ _ c.loop-done.invariant.2 c.in_ok-count.ensures.bytes.0)
+    take_split from (from + count) c.loop-done.buffer (put_mid from room c.loop-done.buffer c.read.new.buf) (omega arith)
+    (take-put_mid_below _ _ _ _ _ (le_refl _) within) in (
+      search rules,
+      search rules,
+      subst (Consumes _ _) (ap (λ l. take from c.loop-done.buffer ++ l) (sym part) ∙ joined)
+          (Consumes-trans _ _ _ _ _ c.loop-done.invariant.2 c.in_ok-count.ensures.bytes.0),
     )

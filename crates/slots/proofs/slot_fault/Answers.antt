@@ -20,7 +20,7 @@ module _ (starts seeds tags : List ℕ) (groups : ℕ) (regular : Regular starts
   -- One slot more of the group.
   next : {before : SlotFault} {g j : ℕ} → At starts seeds tags groups before g j → (fault : SlotFault) → g < groups
       → j < get_or starts (g + 1) 0 → Walked (cells_view starts seeds tags groups) fault (j + 1) → At starts seeds tags groups fault g
-        (j + 1)
+      (j + 1)
   next {g = g} at fault group below walked =
       let ends = group-ends starts seeds groups regular g group in
       record {
@@ -84,8 +84,7 @@ loop-j-preserved c =
     let view = cells_view a.starts.now a.seeds.now a.tags.now a.groups in
     let fault = c.loop-g.fault in
     let sound = sym c.fault_at.ensures.answer ∙ c.in-Nowhere.is in
-    let walked = walk-on view c.loop-j.j fault c.loop-j.invariant.1.walked sound in
-    (
+    let walked = walk-on view c.loop-j.j fault c.loop-j.invariant.1.walked sound in (
       omega (arith, c.loop-j.invariant.0),
       next a.starts.now a.seeds.now a.tags.now a.groups c.requires c.loop-j.invariant.1 fault c.loop-g-test.true c.loop-j-test.true walked,
     )
@@ -113,8 +112,8 @@ loop-g-preserved-then-j-end c =
           walk-repeated view c.loop-j.j fault c.loop-j.invariant.1.walked (sym w.fault_at.ensures.answer ∙ w.in-Repeated.is)
     ] in
     rw c.or_repeated-fault.ensures.answer
-      (next a.starts.now a.seeds.now a.tags.now a.groups c.requires c.loop-j.invariant.1
-      (or_repeated fault c.loop-j.j) c.loop-g-test.true below repeated)
+    (next a.starts.now a.seeds.now a.tags.now a.groups c.requires c.loop-j.invariant.1
+    (or_repeated fault c.loop-j.j) c.loop-g-test.true below repeated)
 
 pub loop-g-smaller : goal.loop-g-smaller
 loop-g-smaller c =

@@ -97,7 +97,7 @@ unfolding writing_checks planned_groups
 returns-in-At c =
     let p8 = passed-8 c.args.tags.now c.args.plan.now c.args.buffer.now c.outside.ensures.answer c.if-outside.false in
     let both = due c.args.tags.now c.args.plan.now c.args.buffer.now
-      (λ i. omega (arith, c.type_inv.tags i)) 2 c.refuse-in-At.ensures.answer p8
+    (λ i. omega (arith, c.type_inv.tags i)) 2 c.refuse-in-At.ensures.answer p8
     (sym c.first_seed_above.ensures.answer ∙ ap first_meaning c.in-At.is) in
     record { answer = both.0; bytes = both.1.0; condition3 = both.1.1 }
 
@@ -107,7 +107,7 @@ returns-then-tags-gt-TAGS_MAX c =
     let p8 = passed-8 c.args.tags.now c.args.plan.now c.args.buffer.now c.outside.ensures.answer c.if-outside.false in
     let p2 = passed-2 c.args.tags.now c.args.plan.now c.args.buffer.now p8 c.first_seed_above.ensures.answer c.in_default.is in
     let both = due c.args.tags.now c.args.plan.now c.args.buffer.now
-      (λ i. omega (arith, c.type_inv.tags i)) 5 c.refuse-then-tags-gt-TAGS_MAX.ensures.answer p2
+    (λ i. omega (arith, c.type_inv.tags i)) 5 c.refuse-then-tags-gt-TAGS_MAX.ensures.answer p2
     (met-true (lt-ltb _ _ c.if-tags-gt-TAGS_MAX.true)) in
     record { answer = both.0; bytes = both.1.0; condition3 = both.1.1 }
 
@@ -118,7 +118,7 @@ returns-in-At-first_not_above c =
     let p2 = passed-2 c.args.tags.now c.args.plan.now c.args.buffer.now p8 c.first_seed_above.ensures.answer c.in_default.is in
     let p5 = passed-5 c.args.tags.now c.args.plan.now c.args.buffer.now p2 c.if-tags-gt-TAGS_MAX.false in
     let both = due c.args.tags.now c.args.plan.now c.args.buffer.now
-      (λ i. omega (arith, c.type_inv.tags i)) 6 c.refuse-in-At-first_not_above.ensures.answer p5
+    (λ i. omega (arith, c.type_inv.tags i)) 6 c.refuse-in-At-first_not_above.ensures.answer p5
     (sym c.first_not_above.ensures.answer ∙ ap first_meaning c.in-At-first_not_above.is) in
     record { answer = both.0; bytes = both.1.0; condition3 = both.1.1 }
 
@@ -129,9 +129,9 @@ returns-then-starts_unwired c =
     let p2 = passed-2 c.args.tags.now c.args.plan.now c.args.buffer.now p8 c.first_seed_above.ensures.answer c.in_default.is in
     let p5 = passed-5 c.args.tags.now c.args.plan.now c.args.buffer.now p2 c.if-tags-gt-TAGS_MAX.false in
     let p6 = passed-6 c.args.tags.now c.args.plan.now c.args.buffer.now p5
-      c.first_not_above.ensures.answer c.in_default-first_not_above.is in
+    c.first_not_above.ensures.answer c.in_default-first_not_above.is in
     let both = due c.args.tags.now c.args.plan.now c.args.buffer.now
-      (λ i. omega (arith, c.type_inv.tags i)) 17 c.refuse-then-starts_unwired.ensures.answer p6
+    (λ i. omega (arith, c.type_inv.tags i)) 17 c.refuse-then-starts_unwired.ensures.answer p6
     (met-true (sym c.starts_unwired.ensures.answer ∙ c.if-starts_unwired.true)) in
     record { answer = both.0; bytes = both.1.0; condition3 = both.1.1 }
 
@@ -148,10 +148,10 @@ returns-then-buffer-image_length c =
     let p2 = passed-2 c.args.tags.now c.args.plan.now c.args.buffer.now p8 c.first_seed_above.ensures.answer c.in_default.is in
     let p5 = passed-5 c.args.tags.now c.args.plan.now c.args.buffer.now p2 c.if-tags-gt-TAGS_MAX.false in
     let p6 = passed-6 c.args.tags.now c.args.plan.now c.args.buffer.now p5
-      c.first_not_above.ensures.answer c.in_default-first_not_above.is in
+    c.first_not_above.ensures.answer c.in_default-first_not_above.is in
     let p17 = passed-17 c.args.tags.now c.args.plan.now c.args.buffer.now p6 c.starts_unwired.ensures.answer c.if-starts_unwired.false in
     let both = due c.args.tags.now c.args.plan.now c.args.buffer.now
-      (λ i. omega (arith, c.type_inv.tags i)) 9 c.refuse-then-buffer-image_length.ensures.answer p17
+    (λ i. omega (arith, c.type_inv.tags i)) 9 c.refuse-then-buffer-image_length.ensures.answer p17
     (met-true (lt-ltb _ _ (rw c.image_length.ensures.answer at c.if-buffer-image_length.true))) in
     record { answer = both.0; bytes = both.1.0; condition3 = both.1.1 }
 
@@ -162,7 +162,7 @@ write_admitted-requires c =
     let p2 = passed-2 c.args.tags.now c.args.plan.now c.args.buffer.now p8 c.first_seed_above.ensures.answer c.in_default.is in
     let p5 = passed-5 c.args.tags.now c.args.plan.now c.args.buffer.now p2 c.if-tags-gt-TAGS_MAX.false in
     let p6 = passed-6 c.args.tags.now c.args.plan.now c.args.buffer.now p5
-      c.first_not_above.ensures.answer c.in_default-first_not_above.is in
+    c.first_not_above.ensures.answer c.in_default-first_not_above.is in
     let p17 = passed-17 c.args.tags.now c.args.plan.now c.args.buffer.now p6 c.starts_unwired.ensures.answer c.if-starts_unwired.false in
     let p9 = passed-9 c.args.tags.now c.args.plan.now c.args.buffer.now p17 c.image_length.ensures.answer c.if-buffer-image_length.false in
     record { groups-are = refl; cells = search rules; passes = p9 }
@@ -170,5 +170,5 @@ write_admitted-requires c =
 pub returns : goal.returns
 returns c =
     let both = promised c.args.tags.now c.args.plan.now c.args.buffer.now
-      (λ i. omega (arith, c.type_inv.tags i)) c.write_admitted.ensures.answer c.write_admitted.ensures.bytes in
+    (λ i. omega (arith, c.type_inv.tags i)) c.write_admitted.ensures.answer c.write_admitted.ensures.bytes in
     record { answer = both.0; bytes = both.1.0; condition3 = both.1.1 }
