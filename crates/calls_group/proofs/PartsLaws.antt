@@ -107,7 +107,8 @@ odd-serves tags seed r condition checks =
     let (parts, told) = condition.otherwise checks in
     rw (odd parts (ltb r tag_end) told) (condition.counted parts told).first-test
   where
-    odd : (parts : Parts) (small : Bool) → answered_by parts_in (cond small (answered r) (refused (r / tag_end) (r % tag_end))) ≡ answered parts
+    odd : (parts : Parts) (small : Bool)
+        → answered_by parts_in (cond small (answered r) (refused (r / tag_end) (r % tag_end))) ≡ answered parts
         → eqb (r % 2) 1 ≡ parts.serves
     odd parts true e = let same : parts_in r ≡ parts = cc in ap (λ (p : Parts). p.serves) same
     odd parts false e = absurd (let z : ◌≡◌ {A = ℕ} 0 1 = cc in omega arith)

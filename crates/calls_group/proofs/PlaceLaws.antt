@@ -50,8 +50,8 @@ pub place-fits : (tags : List ℕ) (limit : ℕ) → Fits (seed_answered (placin
 unfolding answered_by
 place-fits tags limit = go (placing_of tags limit) (seed-small tags limit) (placing-place tags limit) (place-numbered tags limit)
   where
-    go : (o : Outcome Placement) → ((placed : Placement) → o ≡ answered placed → placed.seed < tag_end) → PlaceBelow group_max o → Numbered o
-        → Fits (seed_answered o)
+    go : (o : Outcome Placement) → ((placed : Placement) → o ≡ answered placed → placed.seed < tag_end) → PlaceBelow group_max o
+        → Numbered o → Fits (seed_answered o)
     go (answered placed) small place numbered = small placed refl
     go (refused reason place) small low numbered = (numbered, omega arith)
 

@@ -42,7 +42,8 @@ strict-fits image =
     (λ n e. let told = (in_order-answered (strict_checks (view_of image)) (answered 0) e).1 in let z : 0 ≡ n = cc in omega arith)
 
 -- Calls with one answer came to one outcome.
-pub strict_apart : (image image' : List ℕ) → strict_check_answer image ≡ strict_check_answer image' → strict_check_of image ≡ strict_check_of image'
+pub strict_apart : (image image' : List ℕ) → strict_check_answer image ≡ strict_check_answer image'
+    → strict_check_of image ≡ strict_check_of image'
 unfolding strict_check_answer
 strict_apart image image' = answers-apart _ _ (strict-fits image) (strict-fits image')
 

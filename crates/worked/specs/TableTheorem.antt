@@ -29,7 +29,8 @@ use Rattle.numbering.specs.Members.{select, members, start_of}
 use Rattle.numbering.specs.Number.{choice_of, place_in, number_of, tag_numbered}
 use Rattle.numbering.specs.Plan.{plan_of, planned_groups, planned_seed}
 use Rattle.numbering.specs.Planning.{earlier_checks, planning_checks, planning_of, seed_taken, plan_after}
-use Rattle.numbering.specs.Writing.{sheet_of, choices_under, image_under, writing_checks, writing_of, planned_image, written, buffer_written}
+use Rattle.numbering.specs.Writing.{sheet_of, choices_under, image_under, writing_checks, writing_of}
+use Rattle.numbering.specs.Writing.{planned_image, written, buffer_written}
 use Rattle.numbering.specs.Building.{building_of, buffer_after}
 use Rattle.numbering.proofs.BuildingLaws.{building-in-order, buffer-after}
 use Rattle.worked.specs.Row.{Claim, Holds, AllHold, RowHolds, Every}

@@ -43,11 +43,11 @@ use Rattle.tag_index.specs.Calls.{build_answer, check_answer, lookup_answer}
 computed : ℕ
 unfolding flatten or_else outside answered_by followed_by first met_at is_some met in_order product high_part hashed
     group_of multiplier place_of leading figure value_from same field line_at pair_line tag_line ended both_fields pair_of tag_of
-    within image_header group_line slot_line list_header list_line occurs distinct place_by beginning least_from least feasible choice_number
-    ones fewer_ones taken_from sequence_taken
+    within image_header group_line slot_line list_header list_line occurs distinct place_by beginning least_from least feasible
+    choice_number ones fewer_ones taken_from sequence_taken
     both_places candidates least_seed taken not_above starts_unwired malformed line_count tag_count tags_from
-    listed_in reading_checks reading_of up_to lines_of bytes_of image_length longest_image view_of count_in groups_in start_in seed_in slot_line_in
-    slot_in end_in faulty candidate_in opening_checks malformed_in group_of_slot holds_unwired misplaced repeated number_checks
+    listed_in reading_checks reading_of up_to lines_of bytes_of image_length longest_image view_of count_in groups_in start_in seed_in
+    slot_line_in slot_in end_in faulty candidate_in opening_checks malformed_in group_of_slot holds_unwired misplaced repeated number_checks
     checking_checks checking_of group_checks lookup_checks at_slot lookup_in_group lookup_of select members start_of choice_of
     place_in number_of tag_numbered on_answer plan_of planned_groups planned_seed earlier_checks planning_checks planning_of seed_taken
     plan_after sheet_of choices_under image_under writing_checks writing_of building_of

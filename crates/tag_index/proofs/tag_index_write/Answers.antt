@@ -1,6 +1,5 @@
 -- `tag_index::tag_index_write` meets its contract: the answer is the outcome's, and a refusal's place is a line, an index or a group.
 -- Assumes nothing.
-use borrow.Author.Rules.{rules}
 use mathlib.Core.Path.{◌≡◌, sym, ◌∙◌, ap}
 use mathlib.Core.List.{List}
 use Prim.Native.Nat.{ℕ}
@@ -19,15 +18,12 @@ use Rattle.answer64.proofs.Answer64Laws.{promised64}
 use Rattle.tag_index.specs.Calls.{write_answer}
 use Rattle.tag_index.specs.CallsLaws.{write-fits}
 use Rattle.tag_index.specs.Condition3.{WriteCondition3}
-use Rattle.tag_index.proofs.tag_index_write.Statement.{statement}
-use Rattle.tag_index.proofs.tag_index_write.Tie as tie
+use Rattle.tag_index.proofs.tag_index_write.Goals as goal
 
-refusal-answer-requires : tie.Need-refusal-answer-requires
-refusal-answer-requires c κs =
-    let told = c.before in
-    let written = told.before.before.before.before in
-    let a = written.before.before.before.before.args in
-    let refused = sym written.write-from-text.ensures.0 ∙ ap write_outcome told.refusal.given.1 in
+pub refusal_answer-requires : goal.refusal_answer-requires
+refusal_answer-requires c =
+    let a = c.args in
+    let refused = sym c.write_from_text.ensures.answer ∙ ap write_outcome c.in-Refused.is in
     omega (arith, place-below text_lines (write-text-place a.text.now a.plan.now _) refused)
 
 -- The answer, the bytes, and writing's part of Condition 3.
@@ -41,30 +37,19 @@ promised text plan before after r outcome (told, (bytes, condition3)) answer =
     promised64 _ (write-fits text plan (length before)) (λ o. TextWritingCondition3 text plan o after) told answer condition3 in
     (is, (bytes, of-answer))
 
-returns : tie.Need-returns
+pub returns-in-Written : goal.returns-in-Written
 unfolding answer64
-returns c =
-    let told = c.before in
-    let written = told.before.before.before.before in
-    promised _ _ _ _ _ _ written.write-from-text.ensures
-    (ap (λ (x : WriteAnswer). answer64 (write_outcome x)) (sym told.size.given.1))
+returns-in-Written c =
+    let a = c.args in
+    let written = c.write_from_text.ensures in
+    let is = ap (λ (x : WriteAnswer). answer64 (write_outcome x)) (sym c.in-Written.is) in
+    let p = promised a.text.now a.plan.now a.image.now _ _ _ (written.answer, (written.bytes, written.condition3)) is in
+    record { answer = p.0; bytes = p.1.0; condition3 = p.1.1 }
 
-returns-2 : tie.Need-returns-2
-returns-2 c =
-    let told = c.before.before in
-    let written = told.before.before.before.before in
-    promised _ _ _ _ _ _ written.write-from-text.ensures
-    (c.refusal-answer.ensures ∙ ap (λ (x : WriteAnswer). answer64 (write_outcome x)) (sym told.refusal.given.1))
-
-pub tag-index-write-spec : {M : Type 1} → statement M
-tag-index-write-spec =
-    tie.close
-    (tie.spec
-    (λ c κs. search rules)  -- write-from-text-requires
-    (λ c. search rules)  -- enum-known-size
-    (λ c. search rules)  -- enum-known-refusal
-    refusal-answer-requires
-    (λ c. search rules)  -- same-length
-    returns
-    (λ c. search rules)  -- same-length-2
-    returns-2)
+pub returns-in-Refused : goal.returns-in-Refused
+returns-in-Refused c =
+    let a = c.args in
+    let written = c.write_from_text.ensures in
+    let is = c.refusal_answer.ensures.answer ∙ ap (λ (x : WriteAnswer). answer64 (write_outcome x)) (sym c.in-Refused.is) in
+    let p = promised a.text.now a.plan.now a.image.now _ _ _ (written.answer, (written.bytes, written.condition3)) is in
+    record { answer = p.0; bytes = p.1.0; condition3 = p.1.1 }
