@@ -69,7 +69,8 @@ six-more x bytes h =
     let whole : (x + 6) / 16 % 2 ≡ (x + 6) / 16 = omega arith in
     rw (sum, and_byte (x + 6) 16 more (each (length bytes) 16) (omega arith) (lit< tt), bit-sixteen (x + 6), whole)
 
-pub digits-only : (bytes : List ℕ) → bit_and (packed (low bytes) + each (length bytes) 6) (each (length bytes) 16) ≡ 0 → Below 10 (low bytes)
+pub digits-only : (bytes : List ℕ) → bit_and (packed (low bytes) + each (length bytes) 6) (each (length bytes) 16) ≡ 0
+    → Below 10 (low bytes)
 unfolding Below low
 digits-only [] e = tt
 digits-only (byte ∷ bytes) e =

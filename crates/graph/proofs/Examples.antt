@@ -13,7 +13,8 @@ use Rattle.graph.specs.Sequences.{all_sequences, fills}
 
 -- `unfolding computed` opens every definition that these compute through.
 computed : ℕ
-unfolding or_else up_to first met_at is_some occurs distinct place_by chosen one how_many connected part_points part_edges more_edges lowest parts_of
+unfolding or_else up_to first met_at is_some occurs distinct place_by chosen one how_many connected part_points part_edges
+    more_edges lowest parts_of
     all_sequences fills
 computed = 0
 

@@ -80,7 +80,8 @@ module _ {A : Type 0} where
       → how_many test (up_to (n + 1) f) ≡ how_many test (up_to n f) + 1
   how_many-passes test f n e = rw (add-one n) (omega (arith, how_many-more test f n, one-true e))
 
-  pub how_many-fails : (test : A → Bool) (f : ℕ → A) (n : ℕ) → test (f n) ≡ false → how_many test (up_to (n + 1) f) ≡ how_many test (up_to n f)
+  pub how_many-fails : (test : A → Bool) (f : ℕ → A) (n : ℕ) → test (f n) ≡ false
+      → how_many test (up_to (n + 1) f) ≡ how_many test (up_to n f)
   how_many-fails test f n e = rw (add-one n) (omega (arith, how_many-more test f n, one-false e))
 
   pub how_many-empty : (test : A → Bool) (f : ℕ → A) → how_many test (up_to 0 f) ≡ 0

@@ -143,7 +143,8 @@ points-most n (key ∷ keys) r = go (which (label keys (place_by false key)) (la
     y : ℕ
     y = label keys (place_by true key)
 
-    go : Which x y r → ((r : ℕ) → points_with n keys r ≤ edges_with keys r + 1) → points_with n (key ∷ keys) r ≤ edges_with (key ∷ keys) r + 1
+    go : Which x y r → ((r : ℕ) → points_with n keys r ≤ edges_with keys r + 1)
+        → points_with n (key ∷ keys) r ≤ edges_with (key ∷ keys) r + 1
     go (only e) h = omega (arith, h r, inside key keys (points n) r e, inside key keys (firsts keys) r e, edges-in key keys r)
     go (left m e) h =
         rw e

@@ -223,7 +223,8 @@ pub data Sums (filled filled' size size' : ℕ → ℕ) (r : ℕ) : Type 0 where
   nothing : filled' r ≡ 0 → size' r ≡ 0 → Sums filled filled' size size' r
 
 pub key_back : (n : ℕ) (key : Key) (keys : List Key) (used : List ℕ) (choice : Bool) (r : ℕ)
-    → Sums (λ s. within keys (place_by choice key ∷ used) s + edges_with keys s) (λ s. within (key ∷ keys) used s + edges_with (key ∷ keys) s)
+    → Sums (λ s. within keys (place_by choice key ∷ used) s + edges_with keys s)
+    (λ s. within (key ∷ keys) used s + edges_with (key ∷ keys) s)
     (points_with n keys) (points_with n (key ∷ keys)) r
 key_back n key keys used choice r = go (which x y r)
   where

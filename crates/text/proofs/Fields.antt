@@ -1,5 +1,6 @@
 -- A field read column by column. Assumes nothing.
-use Rattle.std.proofs.Common.{◌≡◌, ℕ, suc, ◌+◌, ◌-◌, ◌*◌, ◌%◌, ◌<◌, ◌≤◌, List, [], ◌∷◌, ◌++◌, length, get_or, take, drop, sym, refl, ◌∙◌, add-one, arith, length-take-le, take_all, take-suc, take-add}
+use Rattle.std.proofs.Common.{◌≡◌, ℕ, suc, ◌+◌, ◌-◌, ◌*◌, ◌%◌, ◌<◌, ◌≤◌, List, [], ◌∷◌, ◌++◌, length, get_or, take, drop, sym, refl, ◌∙◌}
+use Rattle.std.proofs.Common.{add-one, arith, length-take-le, take_all, take-suc, take-add}
 use mathlib.Core.Option.{none, some, none-ne-some}
 use native.Mathlib.Nat.{pow-le-pow_right}
 use Rattle.lists.proofs.FirstLaws.{none-of-never}

@@ -1,5 +1,6 @@
 -- Laws of figures: their length, and where the digits stand. Assumes nothing.
-use Rattle.std.specs.Prelude.{◌≡◌, ℕ, zero, suc, ◌+◌, ◌-◌, ◌/◌, ◌%◌, ◌^◌, ◌<◌, Bool, true, false, cond, not, length, ◌==◌, nat_le, nat_lt, refl}
+use Rattle.std.specs.Prelude.{◌≡◌, ℕ, zero, suc, ◌+◌, ◌-◌, ◌/◌, ◌%◌, ◌^◌, ◌<◌, Bool, true, false, cond, not, length, ◌==◌, nat_le, nat_lt}
+use Rattle.std.specs.Prelude.{refl}
 use Rattle.std.proofs.Common.{arith, length-append, eq-eqb, eqb-true, ne_eqb, le-leb, ltb-true, ltb-false}
 use Rattle.std.proofs.Math.Nat.{pow-succ', one-le-pow, div-div-eq-div-mul, div-eq_of_lt, div-eq-sub-div}
 use Rattle.std.proofs.lemmas.Bool.{lt-leb}

@@ -1,5 +1,7 @@
 -- A field is its leading columns and a digit behind them. Assumes nothing.
-use Rattle.std.proofs.Common.{◌≡◌, ℕ, zero, suc, ◌+◌, ◌*◌, ◌/◌, ◌%◌, ◌^◌, ◌<◌, ◌≤◌, Bool, true, false, eqb, List, [], ◌∷◌, ◌++◌, length, get_or, take, drop, sym, refl, ap, ◌∙◌, append-nil, add-zero, pow-suc, arith, length-drop, length-take-le, get_or-drop, take-suc, take_at, le-ltb, lt-ltb, eq-eqb, ne_eqb, eqb-true}
+use Rattle.std.proofs.Common.{◌≡◌, ℕ, zero, suc, ◌+◌, ◌*◌, ◌/◌, ◌%◌, ◌^◌, ◌<◌, ◌≤◌, Bool, true, false, eqb, List, [], ◌∷◌, ◌++◌, length}
+use Rattle.std.proofs.Common.{get_or, take, drop, sym, refl, ap, ◌∙◌, append-nil, add-zero, pow-suc, arith, length-drop, length-take-le}
+use Rattle.std.proofs.Common.{get_or-drop, take-suc, take_at, le-ltb, lt-ltb, eq-eqb, ne_eqb, eqb-true}
 use mathlib.Core.Option.{none, some, some-injective}
 use lib.Seq.{append_snoc, get_or_at}
 use Rattle.columns.specs.Columns.{column_of, leading_from}

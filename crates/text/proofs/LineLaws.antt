@@ -1,7 +1,9 @@
 -- A line reads as its numbers exactly where it is their line; and line k of joined lines is the k-th of them. Assumes nothing.
-use Rattle.std.specs.Prelude.{◌≡◌, ℕ, zero, suc, ◌+◌, ◌*◌, ◌^◌, ◌<◌, ◌≤◌, Bool, true, false, ◌&&◌, leb, List, [], ◌∷◌, ◌++◌, length, take, drop, ◌==◌, ◌≢◌, nat_le, nat_lt, slice_index, slice_index_or}
+use Rattle.std.specs.Prelude.{◌≡◌, ℕ, zero, suc, ◌+◌, ◌*◌, ◌^◌, ◌<◌, ◌≤◌, Bool, true, false, ◌&&◌, leb, List, [], ◌∷◌, ◌++◌, length, take}
+use Rattle.std.specs.Prelude.{drop, ◌==◌, ◌≢◌, nat_le, nat_lt, slice_index, slice_index_or}
 use Rattle.std.proofs.Math.Path.{sym}
-use Rattle.std.proofs.Common.{◌∙◌, ap, arith, mul-zero, lit<, take_at, drop_at, take_all, take-suc, take-add, eq-eqb, ne_eqb, eqb-true, le-leb, leb-true, lt-ltb, ltb-true}
+use Rattle.std.proofs.Common.{◌∙◌, ap, arith, mul-zero, lit<, take_at, drop_at, take_all, take-suc, take-add, eq-eqb, ne_eqb, eqb-true}
+use Rattle.std.proofs.Common.{le-leb, leb-true, lt-ltb, ltb-true}
 use mathlib.Core.List.{append_assoc, flatten}
 use Rattle.std.proofs.Math.Option.{Option, none, some, none-ne-some, some-injective}
 use Rattle.std.proofs.Math.Nat.{mul-suc}
@@ -100,7 +102,8 @@ pair-only a b line e =
     (ended-only 10 line f ∙ rw (take-add 5 5 line, p.0, q.0), p.1, q.1)
 
 -- Only what is within a range reads as itself.
-pub within-only : {A : Type 0} (in_range : A → Bool) (a : A) (o : Option A) → within in_range o ≡ some a → (o ≡ some a) × (in_range a ≡ true)
+pub within-only : {A : Type 0} (in_range : A → Bool) (a : A) (o : Option A) → within in_range o ≡ some a
+    → (o ≡ some a) × (in_range a ≡ true)
 unfolding within
 within-only in_range a none e = absurd (none-ne-some a e)
 within-only in_range a (some c) e =

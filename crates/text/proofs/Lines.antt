@@ -1,5 +1,6 @@
 -- A whole line by its bytes: what it reads as, and when it is malformed. Assumes nothing.
-use Rattle.std.proofs.Common.{◌≡◌, ℕ, ◌+◌, ◌*◌, ◌%◌, ◌<◌, ◌≤◌, true, List, [], ◌∷◌, length, get_or, take, drop, sym, refl, ◌∙◌, arith, length-take-le, take-suc, eq-eqb, eqb-true}
+use Rattle.std.proofs.Common.{◌≡◌, ℕ, ◌+◌, ◌*◌, ◌%◌, ◌<◌, ◌≤◌, true, List, [], ◌∷◌, length, get_or, take, drop, sym, refl, ◌∙◌, arith}
+use Rattle.std.proofs.Common.{length-take-le, take-suc, eq-eqb, eqb-true}
 use mathlib.Core.Option.{Option, none, some, none-ne-some}
 use Rattle.lists.proofs.BoolLaws.{some-of-cond}
 use Rattle.lists.proofs.FirstLaws.{none-of-never}

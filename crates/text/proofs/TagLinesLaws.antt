@@ -1,5 +1,6 @@
 -- Lines of one tag each, one by one, and the cells that their tags are stored in, cell by cell. Assumes nothing.
-use Rattle.std.specs.Prelude.{◌≡◌, ℕ, zero, suc, ◌+◌, ◌<◌, ◌≤◌, min, true, false, not, List, [], ◌∷◌, ◌++◌, length, take, drop, slice_index, slice_set, refl}
+use Rattle.std.specs.Prelude.{◌≡◌, ℕ, zero, suc, ◌+◌, ◌<◌, ◌≤◌, min, true, false, not, List, [], ◌∷◌, ◌++◌, length, take, drop}
+use Rattle.std.specs.Prelude.{slice_index, slice_set, refl}
 use Rattle.std.proofs.Common.{◌∙◌, ap, add-zero, add-one, take_at, le-leb}
 use Rattle.std.proofs.Math.Option
 use Rattle.std.proofs.Math.Option.{none, some}
@@ -52,7 +53,8 @@ tags_on-more (suc count) k bytes =
     let e : k + suc count ≡ suc k + count = omega arith in
     rw (e, tags_on-more count (suc k) bytes)
 
-tags_on-at : (count k j : ℕ) (bytes : List ℕ) → j < count → slice_index (tags_on count k bytes) j ≡ Option.get_or (tag_in (line_at (k + j) bytes)) 0
+tags_on-at : (count k j : ℕ) (bytes : List ℕ) → j < count
+    → slice_index (tags_on count k bytes) j ≡ Option.get_or (tag_in (line_at (k + j) bytes)) 0
 unfolding tags_on
 tags_on-at zero k j bytes lt = absurd (omega arith)
 tags_on-at (suc count) k zero bytes lt = rw add-zero

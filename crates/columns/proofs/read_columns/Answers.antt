@@ -29,7 +29,9 @@ pub overflow_add-digits : goal.overflow_add-digits
 overflow_add-digits c = omega (arith, digits-below (goal.at.overflow_add-digits c).After-four_bytes-2)
 
 pub returns-then-digits-ne0 : goal.returns-then-digits-ne0
-returns-then-digits-ne0 c = record { answer = no-digits (eight (goal.at.returns-then-digits-ne0 c).After-four_bytes-2) c.args.carry c.if-digits-ne0.true }
+returns-then-digits-ne0 c =
+    let both = eight (goal.at.returns-then-digits-ne0 c).After-four_bytes-2 in
+    record { answer = no-digits both c.args.carry c.if-digits-ne0.true }
 
 pub overflow_add-spaces : goal.overflow_add-spaces
 overflow_add-spaces c = omega (arith, digits-below (goal.at.overflow_add-spaces c).After-four_bytes-2)
@@ -39,10 +41,13 @@ overflow_add-digits-2 c = omega (arith, digits-below (goal.at.overflow_add-digit
 
 pub overflow_sub-digits : goal.overflow_sub-digits
 overflow_sub-digits c =
-    omega (arith, and_le_r (bit_and (word (goal.at.overflow_sub-digits c).After-four_bytes-2) 1085102592571150095 + c.args.carry) 1157442765409226768)
+    let both = word (goal.at.overflow_sub-digits c).After-four_bytes-2 in
+    omega (arith, and_le_r (bit_and both 1085102592571150095 + c.args.carry) 1157442765409226768)
 
 pub returns-then-word-digits : goal.returns-then-word-digits
-returns-then-word-digits c = record { answer = other-spaces (eight (goal.at.returns-then-word-digits c).After-four_bytes-2) c.args.carry c.if-digits-ne0.false c.if-word-digits.true }
+returns-then-word-digits c =
+    let both = eight (goal.at.returns-then-word-digits c).After-four_bytes-2 in
+    record { answer = other-spaces both c.args.carry c.if-digits-ne0.false c.if-word-digits.true }
 
 pub overflow_mul-pairs : goal.overflow_mul-pairs
 overflow_mul-pairs c = omega (arith, digits-below (goal.at.overflow_mul-pairs c).After-four_bytes-2)
@@ -57,7 +62,11 @@ pub overflow_add-fours : goal.overflow_add-fours
 overflow_add-fours c = omega (arith, pairs_below (bit_and (word (goal.at.overflow_add-fours c).After-four_bytes-2) 1085102592571150095))
 
 pub overflow_cast-result-2 : goal.overflow_cast-result-2
-overflow_cast-result-2 c = omega (arith, fours-below (pairs_of (bit_and (word (goal.at.overflow_cast-result-2 c).After-four_bytes-2) 1085102592571150095)))
+overflow_cast-result-2 c =
+    let both = word (goal.at.overflow_cast-result-2 c).After-four_bytes-2 in
+    omega (arith, fours-below (pairs_of (bit_and both 1085102592571150095)))
 
 pub returns : goal.returns
-returns c = record { answer = columns-read (eight (goal.at.returns c).After-four_bytes-2) c.args.carry c.if-digits-ne0.false c.if-word-digits.false }
+returns c =
+    let both = eight (goal.at.returns c).After-four_bytes-2 in
+    record { answer = columns-read both c.args.carry c.if-digits-ne0.false c.if-word-digits.false }

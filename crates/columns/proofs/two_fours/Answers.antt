@@ -5,4 +5,6 @@ use Rattle.columns.proofs.Spaces.{line-fours}
 use Rattle.columns.proofs.two_fours.Goals as goal
 
 pub returns : goal.returns
-returns c = record { answer = c.read_columns.ensures.answer ∙ line-fours c.args.line.now (λ k. omega (arith, c.type_inv.line k)) c.requires }
+returns c =
+    let fours = line-fours c.args.line.now (λ k. omega (arith, c.type_inv.line k)) c.requires in
+    record { answer = c.read_columns.ensures.answer ∙ fours }

@@ -36,7 +36,9 @@ loop-i-preserved c =
 pub returns-then-digit-ge10 : goal.returns-then-digit-ge10
 returns-then-digit-ge10 c =
     record {
-      answer = leads-no-digit _ _ _ _ c.loop-i.invariant c.loop-i-test.false _ c.wrapping_sub_u8-digit.ensures.value (omega arith) c.if-digit-ge10.true
+      answer =
+          leads-no-digit _ _ _ _ c.loop-i.invariant c.loop-i-test.false _ c.wrapping_sub_u8-digit.ensures.value (omega arith)
+          c.if-digit-ge10.true
           ∙ rw c.part-s.ensures.answer;
     }
 

@@ -42,7 +42,8 @@ reads c =
     ∙ c.leading_column.ensures.answer
     ∙ nine-more line c.requires (ap eight_meaning (sym c.in-Number.is) ∙ c.eight_columns.ensures.answer) in
     tag-some line c.requires (sym lead)
-    (ending_of line c.end_digit-last.ensures.answer (omega (arith, c.type_inv.line 9)) (omega (arith, c.type_inv.line 10)) c.if-last-ge10.false)
+    (ending_of line c.end_digit-last.ensures.answer (omega (arith, c.type_inv.line 9)) (omega (arith, c.type_inv.line 10))
+    c.if-last-ge10.false)
 
 pub returns-in_default : goal.returns-in_default
 unfolding within
@@ -80,8 +81,12 @@ overflow_add-t c = omega (arith, below (goal.at.overflow_add-t c).After-end_digi
 
 pub returns-then-t-gt-TAG_MAX : goal.returns-then-t-gt-TAG_MAX
 unfolding within
-returns-then-t-gt-TAG_MAX c = record { answer = rw (reads (goal.at.returns-then-t-gt-TAG_MAX c).Else-last-ge10, le-ltb (number (goal.at.returns-then-t-gt-TAG_MAX c).Else-last-ge10) tag_end (omega arith)) }
+returns-then-t-gt-TAG_MAX c =
+    let e = reads (goal.at.returns-then-t-gt-TAG_MAX c).Else-last-ge10 in
+    record { answer = rw (e, le-ltb (number (goal.at.returns-then-t-gt-TAG_MAX c).Else-last-ge10) tag_end (omega arith)) }
 
 pub returns : goal.returns
 unfolding within
-returns c = record { answer = rw (reads (goal.at.returns c).Else-last-ge10, lt-ltb (number (goal.at.returns c).Else-last-ge10) tag_end (omega arith)) }
+returns c =
+    let e = reads (goal.at.returns c).Else-last-ge10 in
+    record { answer = rw (e, lt-ltb (number (goal.at.returns c).Else-last-ge10) tag_end (omega arith)) }
