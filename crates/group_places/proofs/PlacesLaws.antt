@@ -1,55 +1,29 @@
 -- What the seed and the sequence taken are, of tags among any number of places, in the words of `Fills`: callers use these laws, never
 -- the search. Assumes nothing.
-use Rattle.std.specs.Prelude.{ℕ, zero, suc, ◌≤◌, ◌<◌, Bool, true, List, [], ◌∷◌, length, get_or}
+use Rattle.std.specs.Prelude.{ℕ, ◌≤◌, ◌<◌, Bool, true, List, [], length, get_or}
 use Rattle.std.proofs.Math.Path.{◌≡◌, refl}
 use Rattle.std.proofs.Common.{◌∙◌, arith}
 use Rattle.std.proofs.Math.Bool.{false}
 use Rattle.std.proofs.Math.Option
 use Rattle.std.proofs.Math.Option.{Option, none, some, map}
-use Rattle.std.proofs.lemmas.List.{length-map}
 use Rattle.lists.specs.First.{is_some}
 use Rattle.lists.proofs.FirstLaws.{some-of-is_some, first_some, first-none, first_found, first_out}
-use Rattle.hash.specs.Formula.{place_of}
 use Rattle.hash.proofs.FormulaLaws.{place-below}
-use Rattle.filling.specs.Filling.{place_by, Fills, EachCandidate}
-use Rattle.filling.specs.Word.{choice_number, word_of}
+use Rattle.filling.specs.Filling.{Fills, EachCandidate}
+use Rattle.filling.specs.Word.{word_of}
 use Rattle.filling.specs.Order.{NotAfter}
 use Rattle.filling.specs.Least.{feasible}
 use Rattle.filling.proofs.LeastLaws.{feasible-fills, infeasible-none, fills-feasible, none-infeasible}
 use Rattle.filling.specs.Taken.{sequence_taken}
 use Rattle.filling.proofs.TakenLaws.{sequence-fills, sequence-first, sequence-only, sequence-exists}
-use Rattle.group.specs.Group.{both_places, candidates}
+use Rattle.group.specs.Group.{candidates}
+use Rattle.group.proofs.GroupLaws.{each-candidate}
 use Rattle.group_places.specs.Places.{least_seed_on, taken_on, word_on}
-
--- Each tag has its pair of candidate places.
-pub candidates-length : (n s : ℕ) (tags : List ℕ) → length (candidates n s tags) ≡ length tags
-unfolding candidates
-candidates-length n s tags = length-map tags (both_places n s)
-
--- The place that a choice takes of the tag with index i is the tag's place by the formula.
-pub candidate-place : (n s : ℕ) (tags : List ℕ) (i : ℕ) (choice : Bool) → i < length tags
-    → place_by choice (get_or (candidates n s tags) i (0, 0)) ≡ place_of n s (choice_number choice) (get_or tags i 0)
-unfolding candidates both_places place_by choice_number
-candidate-place n s [] i choice lt = absurd (omega arith)
-candidate-place n s (t ∷ ts) zero false lt = refl
-candidate-place n s (t ∷ ts) zero true lt = refl
-candidate-place n s (t ∷ ts) (suc i) choice lt = candidate-place n s ts i choice (omega arith)
-
--- What holds of every place of every tag by the formula holds of each candidate place.
-pub each-candidate : (P : ℕ → Type 0) (n s : ℕ) (tags : List ℕ)
-    → ((i c : ℕ) → i < length tags → P (place_of n s c (get_or tags i 0))) → EachCandidate P (candidates n s tags)
-each-candidate P n s tags each i lt choice =
-    let below : i < length tags = omega (arith, candidates-length n s tags) in
-    rw (candidate-place n s tags i choice below) (each i (choice_number choice) below)
 
 -- Where there are no more tags than places, each candidate place is one of the places.
 pub candidates-below : (n s : ℕ) (tags : List ℕ) → length tags ≤ n → EachCandidate (λ x. x < n) (candidates n s tags)
 candidates-below n s tags room =
     each-candidate (λ x. x < n) n s tags (λ i c lt. place-below n s c (get_or tags i 0) (omega arith))
-
--- A sequence that fills has a choice for each tag.
-pub fills-length : (n s : ℕ) (tags : List ℕ) {cs : List Bool} → Fills (candidates n s tags) cs → length cs ≡ length tags
-fills-length n s tags f = f.whole ∙ candidates-length n s tags
 
 -- Nothing fills under seed s.
 abbrev pub NoneFillsOn : ℕ → List ℕ → ℕ → Type 0
