@@ -15,6 +15,5 @@ pub fn refusal_answer(refusal: Refusal) -> u64
     requires { refusal.place < tag_end }
     ensures answer { result ≡ answer64 (refusal_of refusal) }
 {
-    let reason = refusal.reason;
-    refusal::reason_number(reason) as u64 * 4294967296 + refusal.place as u64
+    u32::from(refusal.reason) as u64 * 4294967296 + refusal.place as u64
 }

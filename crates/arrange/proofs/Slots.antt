@@ -2,7 +2,7 @@
 use Prim.Native.Nat.{ℕ, ◌+◌, ◌-◌, ◌≤◌, ◌<◌}
 use mathlib.Core.Path.{◌≡◌, refl, sym, ◌∙◌, ap}
 use mathlib.Core.List.{List, append_assoc}
-use mathlib.Core.Option.{none, some}
+use Rattle.std.specs.Prelude.{None, Some}
 use native.Mathlib.Omega.{arith}
 use native.Mathlib.Numerals.{add-one}
 use lib.ListN.{length, get_or, take, drop, length-take, length-drop}
@@ -58,14 +58,14 @@ module _ {groups : ℕ} {ordered ends seeds before : List ℕ} (a : AllArrangeab
       part-legal = (rw own (a.few g lt), a.seeds-legal g lt)
 
       -- Where there is none, this is the lowest group that nothing fills.
-      pub part-unfilled : word_under part (get_or seeds g 0) ≡ none → first (unfilled_part ordered ends seeds) groups ≡ some g
+      pub part-unfilled : word_under part (get_or seeds g 0) ≡ None → first (unfilled_part ordered ends seeds) groups ≡ Some g
       unfolding unfilled_part
       part-unfilled e =
           let nothing = word_none (part_of ordered ends g) (get_or seeds g 0) (rw own at e) in
           searched-found (unfilled_part ordered ends seeds) 0 groups g f.searched lt (rw nothing)
 
       -- With the word it can be arranged into the cells that the code lends.
-      module _ {word : ℕ} (found : word_under part (get_or seeds g 0) ≡ some word) where
+      module _ {word : ℕ} (found : word_under part (get_or seeds g 0) ≡ Some word) where
         pub part-arrangeable : Arrangeable part (get_or seeds g 0) word (length (take (get_or ends g 0 - start) (drop start slots)))
         part-arrangeable = record {
           few = part-legal.0;
@@ -108,7 +108,7 @@ module _ {groups : ℕ} {ordered ends seeds before : List ℕ} (a : AllArrangeab
 
     -- After the last group all slots are written.
     pub filled-done : groups ≤ g
-        → (first (unfilled_part ordered ends seeds) groups ≡ none) × (slots ≡ slots_into ordered ends seeds groups before)
+        → (first (unfilled_part ordered ends seeds) groups ≡ None) × (slots ≡ slots_into ordered ends seeds groups before)
     filled-done past =
         let same : g ≡ groups = omega (arith, f.searched.within) in
         (searched-done (unfilled_part ordered ends seeds) 0 groups g f.searched past, rw same at f.cells_are)

@@ -1,17 +1,12 @@
 // A group's tags put in the order of their places, and the slots of all groups one group's after the other's.
 #![tactic(auto)]
 
-ghost use Rattle.std.specs.Prelude.{◌≡◌, cond, ◌<◌, length};
-ghost use Rattle.std.proofs.Math.Option.{get_or};
+ghost use Rattle.std.specs.Prelude.{◌≡◌, cond, ◌<◌, length, unwrap_or};
 ghost use Rattle.lists.specs.First.{first};
-ghost use Rattle.refusal.specs.Answer.{first_meaning};
 ghost use Rattle.group.specs.Group.{taken};
 ghost use Rattle.bits.specs.WordBits.{choice_in};
 ghost use Rattle.numbering.specs.GroupSlots.{group_slots};
 ghost use Rattle.arrange.specs.Arrange.{Arrangeable, AllArrangeable, unfilled_part, slots_into};
-
-use refusal::First;
-use sequence::Choices;
 
 // Writes the slots of all groups, one group's after the other's, and stops at the lowest group that no sequence fills under its seed;
 // the cells after them stay. Part g of the tags, in the order of the groups, ends at `ends[g]`, and its seed is `seeds[g]`.
@@ -21,25 +16,23 @@ pub fn arrange(
     seeds: &[u32],
     groups: usize,
     slots: &mut [u32],
-) -> First
+) -> Option<usize>
     requires { AllArrangeable groups ordered.now ends.now seeds.now (length slots.old) }
-    ensures answer { first_meaning result ≡ first (unfilled_part ordered.now ends.now seeds.now) groups }
+    ensures answer { result ≡ first (unfilled_part ordered.now ends.now seeds.now) groups }
     ensures cells { slots.new ≡ slots_into ordered.now ends.now seeds.now
-        (get_or (first_meaning result) groups) slots.old }
+        (unwrap_or result groups) slots.old }
 {
     let mut start = 0;
-    let mut g = 0;
-    while g < groups {
+    for g in 0..groups {
         let end = ends[g];
         let seed = seeds[g];
-        let Choices::Word(word) = word::word_under(&ordered[start..end], seed) else {
-            return First::At(g);
+        let Some(word) = word::word_under(&ordered[start..end], seed) else {
+            return Some(g);
         };
         arrange_group(&ordered[start..end], seed, word, &mut slots[start..end]);
         start = end;
-        g += 1;
     }
-    First::Nowhere
+    None
 }
 
 // Writes the slots of one group: each tag into the cell of its place, under the seed and the word of the sequence taken.
@@ -50,12 +43,10 @@ pub fn arrange_group(part: &[u32], seed: u32, word: u32, cells: &mut [u32])
     let n = part.len() as u32;
     let first = hash::multiplier(seed, 0);
     let second = hash::multiplier(seed, 1);
-    let mut i: u32 = 0;
-    while i < n {
+    for i in 0..n {
         let tag = part[i as usize];
         let place = hash::hashed(multiplier_at(word, i, first, second), n, tag);
         cells[place as usize] = tag;
-        i += 1;
     }
 }
 

@@ -7,18 +7,9 @@ ghost use Rattle.std.specs.Prelude.{◌≡◌, length};
 ghost use Rattle.numbering.specs.Planning.{plan_after};
 ghost use Rattle.numbering.specs.Building.{building_of, buffer_after};
 ghost use Rattle.condition3.specs.Condition3.{Condition3};
-ghost use Rattle.building.specs.Answer.{build_outcome};
+ghost use Rattle.refusal.specs.Answer.{outcome};
 
-use planning::PlanAnswer;
 use refusal::Refusal;
-use writing::WriteAnswer;
-
-// What building answers: the length of the image, or refused.
-#[derive(Drop)]
-pub enum BuildAnswer {
-    Built(usize),
-    Refused(Refusal),
-}
 
 // The operation "building", for any list, any B and L, and any buffer. The plan is lent out; if planning refuses, writing is not begun.
 pub fn build(
@@ -27,18 +18,13 @@ pub fn build(
     limit: u32,
     plan: &mut [u32; refusal::PLAN_CELLS],
     buffer: &mut [u8],
-) -> BuildAnswer
-    ensures answer { build_outcome result ≡ building_of tags.now groups limit (length buffer.old) }
+) -> Result<usize, Refusal>
+    ensures answer { outcome result ≡ building_of tags.now groups limit (length buffer.old) }
     ensures plan { plan.new ≡ plan_after tags.now groups limit }
     ensures bytes { buffer.new ≡ buffer_after tags.now groups limit buffer.old }
     ensures condition3 { Condition3 tags.now groups limit (length buffer.old) plan.new
-        (build_outcome result) buffer.new }
+        (outcome result) buffer.new }
 {
-    match planning::plan_list(tags, groups, limit, plan) {
-        PlanAnswer::Planned(_) => match writing::write_list(tags, plan, buffer) {
-            WriteAnswer::Written(size) => BuildAnswer::Built(size),
-            WriteAnswer::Refused(refusal) => BuildAnswer::Refused(refusal),
-        },
-        PlanAnswer::Refused(refusal) => BuildAnswer::Refused(refusal),
-    }
+    planning::plan_list(tags, groups, limit, plan)?;
+    writing::write_list(tags, plan, buffer)
 }

@@ -7,9 +7,6 @@ ghost use Rattle.std.specs.Prelude.{◌≡◌};
 ghost use Rattle.calls_group.specs.Place.{place_answer, word_after, PlaceCondition3};
 ghost use Rattle.calls_group.specs.Parts.{parts_answer, PartsAnswerCondition};
 
-use parts::PartsAnswer;
-use placing::PlacingAnswer;
-
 // Places a group: answers its least seed, and leaves the choice word in the cell.
 pub fn place_group(tags: &[u32], limit: u32, word: &mut [u32; 1]) -> u64
     ensures answer { result ≡ place_answer tags.now limit }
@@ -17,11 +14,11 @@ pub fn place_group(tags: &[u32], limit: u32, word: &mut [u32; 1]) -> u64
     ensures condition3 { PlaceCondition3 tags.now limit result word.new }
 {
     match placing::place_group(tags, limit) {
-        PlacingAnswer::Placed(seed, choices) => {
-            *word = [choices];
-            seed as u64
+        Ok(placed) => {
+            *word = [placed.word];
+            placed.seed as u64
         }
-        PlacingAnswer::Refused(refusal) => answer64::refusal_answer(refusal),
+        Err(refusal) => answer64::refusal_answer(refusal),
     }
 }
 
@@ -31,8 +28,7 @@ pub fn count_parts(tags: &[u32], seed: u32) -> u64
     ensures condition { PartsAnswerCondition tags.now seed result }
 {
     match parts::count_parts(tags, seed) {
-        PartsAnswer::Serves(number) => 2 * number as u64 + 1,
-        PartsAnswer::DoesNotServe(number) => 2 * number as u64,
-        PartsAnswer::Refused(refusal) => answer64::refusal_answer(refusal),
+        Ok(parts) => 2 * parts.number as u64 + parts.serves as u64,
+        Err(refusal) => answer64::refusal_answer(refusal),
     }
 }

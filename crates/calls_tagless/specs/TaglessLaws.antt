@@ -1,8 +1,7 @@
 -- The answers of an index without tags keep apart all outcomes that the functions can come to, and lookup's meet what is owed.
 -- Assumes nothing.
-use Rattle.std.specs.Prelude.{◌≡◌, refl, List, ℕ, suc, ◌≤◌, ◌<◌, eqb}
+use Rattle.std.specs.Prelude.{◌≡◌, refl, List, ℕ, suc, ◌≤◌, ◌<◌, eqb, Option, None, Some, unwrap_or}
 use Rattle.std.proofs.Common.{◌∙◌, arith}
-use Rattle.std.proofs.Math.Option.{Option, none, some, get_or}
 use Rattle.refusal.specs.Limits.{tag_end, tags_max, unwired}
 use Rattle.refusal.specs.Outcome.{Outcome, answered, refused, answered_by}
 use Rattle.refusal.proofs.OutcomeLaws.{answered-of-followed}
@@ -122,9 +121,9 @@ pub count_most : (image : List ℕ) → count_in (tagless_view image) ≤ tags_m
 unfolding count_in tagless_view
 count_most image = go (image_header (line_at 0 image)) refl
   where
-    go : (o : Option (ℕ × ℕ)) → image_header (line_at 0 image) ≡ o → (get_or o (0, 0)).0 ≤ tags_max
-    go none e = omega arith
-    go (some (n, b)) e = (image-header-only n b (line_at 0 image) e).1
+    go : (o : Option (ℕ × ℕ)) → image_header (line_at 0 image) ≡ o → (unwrap_or o (0, 0)).0 ≤ tags_max
+    go None e = omega arith
+    go (Some (n, b)) e = (image-header-only n b (line_at 0 image) e).1
 
 lookup-slot : (image : List ℕ) (t : ℕ) → SlotFound (tagless_lookup_of image t)
 lookup-slot image t = go (tagless_lookup_of image t) refl

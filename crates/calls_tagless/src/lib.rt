@@ -8,8 +8,6 @@ ghost use Rattle.tagless.specs.FromText.{tagless_buffer_from_text};
 ghost use Rattle.calls_tagless.specs.Tagless.{tagless_build_answer, tagless_check_answer, tagless_lookup_answer};
 ghost use Rattle.calls_tagless.specs.Tagless.{TaglessBuildCondition, TaglessAnswerCondition2};
 
-use building::BuildAnswer;
-use checking::CheckAnswer;
 use lookup::LookupAnswer;
 
 // Builds the index without tags of a list text at the beginning of `image`, and answers its length.
@@ -19,8 +17,8 @@ pub fn build(text: &[u8], image: &mut [u8]) -> u64
     ensures condition { TaglessBuildCondition text.now image.old result image.new }
 {
     match tagless_from_text::build_from_text(text, image) {
-        BuildAnswer::Built(size) => size as u64,
-        BuildAnswer::Refused(refusal) => answer64::refusal_answer(refusal),
+        Ok(size) => size as u64,
+        Err(refusal) => answer64::refusal_answer(refusal),
     }
 }
 
@@ -29,8 +27,8 @@ pub fn check(image: &[u8]) -> u64
     ensures answer { result ≡ tagless_check_answer image.now }
 {
     match tagless_checking::tagless_check(image) {
-        CheckAnswer::Accepted => 0,
-        CheckAnswer::Refused(refusal) => answer64::refusal_answer(refusal),
+        Ok(()) => 0,
+        Err(refusal) => answer64::refusal_answer(refusal),
     }
 }
 

@@ -27,9 +27,7 @@ fn lay(tags: &[u32], n: u32, multiplier: u32, from: usize, places: &mut [u32; pl
     ensures cells { places.new
         ≡ paste places.old from (map (hashed multiplier n) tags.now) (length tags.now) }
 {
-    let mut i = 0;
-    while i < tags.len() {
-        places[from + i] = hash::hashed(multiplier, n, tags[i]);
-        i += 1;
+    for (i, &tag) in tags.iter().enumerate() {
+        places[from + i] = hash::hashed(multiplier, n, tag);
     }
 }

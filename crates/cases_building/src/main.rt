@@ -2,8 +2,6 @@
 // with what checking and lookup say of them.
 #![tactic(auto)]
 
-use building::BuildAnswer;
-use checking::CheckAnswer;
 use lookup::LookupAnswer;
 use std::io;
 
@@ -22,17 +20,15 @@ fn look_up(rt: &impl Print, image: &[u8], tag: u32) -> io::Result<()> {
 fn check(rt: &impl Print, image: &[u8]) -> io::Result<()> {
     report::words(rt, b"  ")?;
     match checking::check_image(image) {
-        CheckAnswer::Accepted => report::words(rt, b"accepted")?,
-        CheckAnswer::Refused(refusal) => report::refusal(rt, refusal)?,
+        Ok(()) => report::words(rt, b"accepted")?,
+        Err(refusal) => report::refusal(rt, refusal)?,
     }
     report::words(rt, b"\n")
 }
 
 fn look_up_each(rt: &impl Print, image: &[u8], tags: &[u32]) -> io::Result<()> {
-    let mut i = 0;
-    while i < tags.len() {
-        look_up(rt, image, tags[i])?;
-        i += 1;
+    for &tag in tags {
+        look_up(rt, image, tag)?;
     }
     Ok(())
 }
@@ -70,12 +66,12 @@ fn build_into(
     }
     let mut plan = [0u32; refusal::PLAN_CELLS];
     match building::build(tags, groups, limit, &mut plan, &mut buffer[..room]) {
-        BuildAnswer::Built(size) => {
+        Ok(size) => {
             report::number(rt, size as u64)?;
             report::words(rt, b" bytes\n")?;
             Ok(size)
         }
-        BuildAnswer::Refused(refusal) => {
+        Err(refusal) => {
             report::refusal(rt, refusal)?;
             report::words(rt, b"\n")?;
             Ok(0)

@@ -2,18 +2,17 @@
 // it. Multipliers are odd, so a multiple of 2^29 stays one, and an odd multiple stays odd; those of 2^27 alike.
 #![tactic(auto)]
 
-use placing::PlacingAnswer;
 use std::io;
 
 fn place(rt: &impl Print, tags: &[u32], limit: u32) -> io::Result<()> {
     match placing::place_group(tags, limit) {
-        PlacingAnswer::Placed(seed, word) => {
+        Ok(placed) => {
             report::words(rt, b"seed ")?;
-            report::number(rt, seed as u64)?;
+            report::number(rt, placed.seed as u64)?;
             report::words(rt, b", word ")?;
-            report::number(rt, word as u64)?;
+            report::number(rt, placed.word as u64)?;
         }
-        PlacingAnswer::Refused(refusal) => report::refusal(rt, refusal)?,
+        Err(refusal) => report::refusal(rt, refusal)?,
     }
     report::words(rt, b"\n")
 }

@@ -1,7 +1,6 @@
 // Runs checking and lookup on small images, whole and damaged: each refusal and each rule for its place.
 #![tactic(auto)]
 
-use checking::CheckAnswer;
 use lookup::LookupAnswer;
 use std::io;
 
@@ -22,8 +21,8 @@ fn image(rt: &impl Print, name: &[u8], image: &[u8]) -> io::Result<()> {
     report::words(rt, name)?;
     report::words(rt, b": ")?;
     match checking::check_image(image) {
-        CheckAnswer::Accepted => report::words(rt, b"accepted")?,
-        CheckAnswer::Refused(refusal) => report::refusal(rt, refusal)?,
+        Ok(()) => report::words(rt, b"accepted")?,
+        Err(refusal) => report::refusal(rt, refusal)?,
     }
     report::words(rt, b"\n")?;
     look_up(rt, image, 0)?;

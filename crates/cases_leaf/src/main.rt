@@ -1,7 +1,6 @@
 // Runs chosen cases of the leaf crates: place of one tag, at the ranges' ends and beyond them.
 #![tactic(auto)]
 
-use hash::PlaceAnswer;
 use std::io;
 
 fn place(rt: &impl Print, n: u32, seed: u32, choice: u32, tag: u32) -> io::Result<()> {
@@ -15,8 +14,8 @@ fn place(rt: &impl Print, n: u32, seed: u32, choice: u32, tag: u32) -> io::Resul
     report::number(rt, choice as u64)?;
     report::words(rt, b": ")?;
     match hash::place_of_one_tag(n, seed, choice, tag) {
-        PlaceAnswer::Place(p) => report::number(rt, p as u64)?,
-        PlaceAnswer::Refused(r) => report::refusal(rt, r)?,
+        Ok(p) => report::number(rt, p as u64)?,
+        Err(r) => report::refusal(rt, r)?,
     }
     report::words(rt, b"\n")
 }

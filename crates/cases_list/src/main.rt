@@ -1,21 +1,20 @@
 // Runs cases of reading a list: each refusal at each of its places, and the cells afterwards.
 #![tactic(auto)]
 
-use list::ListAnswer;
 use std::io;
 
 // Reads the text into the cells, and prints the answer and the cells.
 fn read(rt: &impl Print, text: &[u8], cells: &mut [u32]) -> io::Result<()> {
     match list::read_list(text, cells) {
-        ListAnswer::Listed(groups, limit, count) => {
+        Ok(listed) => {
             report::words(rt, b"B ")?;
-            report::number(rt, groups as u64)?;
+            report::number(rt, listed.groups as u64)?;
             report::words(rt, b", L ")?;
-            report::number(rt, limit as u64)?;
+            report::number(rt, listed.limit as u64)?;
             report::words(rt, b", count ")?;
-            report::number(rt, count as u64)?;
+            report::number(rt, listed.count as u64)?;
         }
-        ListAnswer::Refused(refusal) => report::refusal(rt, refusal)?,
+        Err(refusal) => report::refusal(rt, refusal)?,
     }
     report::words(rt, b"; cells")?;
     report::numbers(rt, cells)?;

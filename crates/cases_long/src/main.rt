@@ -1,20 +1,19 @@
 // Runs reading on the longest list and on one tag more: 4,096 tags are read, 4,097 are refused with 5.
 #![tactic(auto)]
 
-use list::ListAnswer;
 use std::io;
 
 fn read(rt: &impl Print, text: &[u8], cells: &mut [u32]) -> io::Result<()> {
     match list::read_list(text, cells) {
-        ListAnswer::Listed(_, _, count) => {
+        Ok(listed) => {
             report::words(rt, b"count ")?;
-            report::number(rt, count as u64)?;
+            report::number(rt, listed.count as u64)?;
             if 4095 < cells.len() {
                 report::words(rt, b", last tag ")?;
                 report::number(rt, cells[4095] as u64)?;
             }
         }
-        ListAnswer::Refused(refusal) => report::refusal(rt, refusal)?,
+        Err(refusal) => report::refusal(rt, refusal)?,
     }
     report::words(rt, b"\n")
 }

@@ -2,7 +2,6 @@
 // same pair of places, parts that are joined, groups of 32 tags, and each refusal.
 #![tactic(auto)]
 
-use parts::PartsAnswer;
 use std::io;
 
 fn number(rt: &impl Print, serves: &[u8], parts: u32) -> io::Result<()> {
@@ -16,9 +15,9 @@ fn count(rt: &impl Print, tags: &[u32], seed: u32) -> io::Result<()> {
     report::words(rt, b", seed ")?;
     report::number(rt, seed as u64)?;
     match parts::count_parts(tags, seed) {
-        PartsAnswer::Serves(parts) => number(rt, b": serves, parts ", parts)?,
-        PartsAnswer::DoesNotServe(parts) => number(rt, b": does not serve, parts ", parts)?,
-        PartsAnswer::Refused(refusal) => {
+        Ok(parts) if parts.serves => number(rt, b": serves, parts ", parts.number)?,
+        Ok(parts) => number(rt, b": does not serve, parts ", parts.number)?,
+        Err(refusal) => {
             report::words(rt, b": ")?;
             report::refusal(rt, refusal)?;
         }

@@ -1,7 +1,6 @@
 // Runs cases of placing a group: worked values 4, 5, 6, 10 and 12, the traps, groups of 32 tags, and each refusal.
 #![tactic(auto)]
 
-use placing::PlacingAnswer;
 use std::io;
 
 fn place(rt: &impl Print, tags: &[u32], limit: u32) -> io::Result<()> {
@@ -10,13 +9,13 @@ fn place(rt: &impl Print, tags: &[u32], limit: u32) -> io::Result<()> {
     report::words(rt, b", L ")?;
     report::number(rt, limit as u64)?;
     match placing::place_group(tags, limit) {
-        PlacingAnswer::Placed(seed, word) => {
+        Ok(placed) => {
             report::words(rt, b": seed ")?;
-            report::number(rt, seed as u64)?;
+            report::number(rt, placed.seed as u64)?;
             report::words(rt, b", word ")?;
-            report::number(rt, word as u64)?;
+            report::number(rt, placed.word as u64)?;
         }
-        PlacingAnswer::Refused(refusal) => {
+        Err(refusal) => {
             report::words(rt, b": ")?;
             report::refusal(rt, refusal)?;
         }

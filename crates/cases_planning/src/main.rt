@@ -2,9 +2,7 @@
 // of two comes first. Every lent cell and every byte of the buffer is printed, after a refusal too.
 #![tactic(auto)]
 
-use planning::PlanAnswer;
 use std::io;
-use writing::WriteAnswer;
 
 // Plans into cells that hold anything, and prints the answer and all cells.
 fn plan_into(
@@ -18,8 +16,8 @@ fn plan_into(
     report::words(rt, name)?;
     report::words(rt, b": ")?;
     match planning::plan_list(tags, groups, limit, cells) {
-        PlanAnswer::Planned(b) => report::number(rt, b as u64)?,
-        PlanAnswer::Refused(refusal) => report::refusal(rt, refusal)?,
+        Ok(b) => report::number(rt, b as u64)?,
+        Err(refusal) => report::refusal(rt, refusal)?,
     }
     report::words(rt, b"\n ")?;
     report::numbers(rt, cells)?;
@@ -43,8 +41,8 @@ fn write_into(
     report::words(rt, name)?;
     report::words(rt, b": ")?;
     match writing::write_list(tags, cells, buffer) {
-        WriteAnswer::Written(size) => report::number(rt, size as u64)?,
-        WriteAnswer::Refused(refusal) => report::refusal(rt, refusal)?,
+        Ok(size) => report::number(rt, size as u64)?,
+        Err(refusal) => report::refusal(rt, refusal)?,
     }
     report::words(rt, b"\n")?;
     report::words(rt, buffer)?;

@@ -2,13 +2,13 @@
 // accepts as well, and with a refusal of checking and 19 due at once.
 #![tactic(auto)]
 
-use checking::CheckAnswer;
+use refusal::Refusal;
 use std::io;
 
-fn said(rt: &impl Print, answer: CheckAnswer) -> io::Result<()> {
+fn said(rt: &impl Print, answer: Result<(), Refusal>) -> io::Result<()> {
     match answer {
-        CheckAnswer::Accepted => report::words(rt, b"accepted"),
-        CheckAnswer::Refused(refusal) => report::refusal(rt, refusal),
+        Ok(()) => report::words(rt, b"accepted"),
+        Err(refusal) => report::refusal(rt, refusal),
     }
 }
 
@@ -27,11 +27,7 @@ fn put_first(bytes: &mut [u8], text: &[u8]) {
     if bytes.len() < text.len() {
         return;
     }
-    let mut i = 0;
-    while i < text.len() {
-        bytes[i] = text[i];
-        i += 1;
-    }
+    bytes[..text.len()].copy_from_slice(text);
 }
 
 // Puts a text over the bytes of an image of at most 34 lines from a line on.

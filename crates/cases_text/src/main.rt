@@ -3,7 +3,6 @@
 #![tactic(auto)]
 
 use std::io;
-use text::{Field, Pair, Tag};
 
 fn field(rt: &impl Print, bytes: &[u8], at: usize, width: usize) -> io::Result<()> {
     report::words(rt, b"field \"")?;
@@ -15,29 +14,29 @@ fn field(rt: &impl Print, bytes: &[u8], at: usize, width: usize) -> io::Result<(
     report::words(rt, b" columns: ")?;
     if width <= 19 {
         match text::read_field(bytes, at, width) {
-            Field::Value(n) => report::number(rt, n)?,
-            Field::Malformed => report::words(rt, b"malformed")?,
+            Some(n) => report::number(rt, n)?,
+            None => report::words(rt, b"malformed")?,
         }
     }
     report::words(rt, b"\n")
 }
 
-fn pair(rt: &impl Print, answer: Pair) -> io::Result<()> {
+fn pair(rt: &impl Print, answer: Option<(u32, u32)>) -> io::Result<()> {
     match answer {
-        Pair::Numbers(a, b) => {
+        Some((a, b)) => {
             report::number(rt, a as u64)?;
             report::words(rt, b" and ")?;
             report::number(rt, b as u64)?;
         }
-        Pair::Malformed => report::words(rt, b"malformed")?,
+        None => report::words(rt, b"malformed")?,
     }
     report::words(rt, b"\n")
 }
 
-fn tag(rt: &impl Print, answer: Tag) -> io::Result<()> {
+fn tag(rt: &impl Print, answer: Option<u32>) -> io::Result<()> {
     match answer {
-        Tag::Number(t) => report::number(rt, t as u64)?,
-        Tag::Malformed => report::words(rt, b"malformed")?,
+        Some(t) => report::number(rt, t as u64)?,
+        None => report::words(rt, b"malformed")?,
     }
     report::words(rt, b"\n")
 }

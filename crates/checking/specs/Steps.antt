@@ -1,14 +1,12 @@
 -- The steps of checking behind the opening checks. Assumes nothing.
-use Rattle.std.specs.Prelude.{ℕ, ◌+◌, ◌<◌, ◌≡◌, Bool, List, eqb, length, get_or}
-use Rattle.std.proofs.Math.Option
-use Rattle.std.proofs.Math.Option.{Option}
+use Rattle.std.specs.Prelude.{ℕ, ◌+◌, ◌<◌, ◌≡◌, Bool, List, eqb, length, get_or, Option, None, Some, unwrap_or}
 use Rattle.refusal.specs.Limits.{tags_max, groups_max, unwired}
 use Rattle.refusal.specs.Outcome.{Outcome, answered, refused}
 use Rattle.image.specs.View.{View, start_in, seed_in, slot_in, faulty}
 use Rattle.image.specs.SameNumbers.{SameNumbers}
 use Rattle.slots.specs.Cells.{cells_view, Legal}
 use Rattle.slots.specs.declared.SlotFault.{SlotFault}
-use Rattle.slots.specs.declared.SlotFault.TheVariants.{Misplaced, Repeated, Nowhere}
+use Rattle.slots.specs.declared.SlotFault.TheVariants.{Misplaced, Repeated}
 
 -- Slot j holds 0, by the cells of the tags.
 abbrev pub unwired_at : List ℕ → ℕ → Bool
@@ -20,7 +18,7 @@ faulty_at starts g = faulty g (get_or starts g 0) (get_or starts (g + 1) 0)
 
 -- How many lines stand before the first malformed one: all where none is.
 abbrev pub lines_before : Option ℕ → ℕ → ℕ
-lines_before found all = Option.get_or found all
+lines_before found all = unwrap_or found all
 
 -- The cells hold one number of each line from line `from` on that is among the first `lines`.
 pub record Filled (number : ℕ → ℕ) (from lines size : ℕ) (cells : List ℕ) : Type 0 where
@@ -44,7 +42,7 @@ pub record Stated (v : View) (groups : ℕ) (starts seeds tags : List ℕ) : Typ
   pub tags-long : length tags ≡ tags_max
 
 -- What a fault of the slots is refused with; without one the image is accepted.
-abbrev pub fault_outcome : SlotFault → Outcome ℕ
-fault_outcome (Misplaced j) = refused 14 j
-fault_outcome (Repeated j) = refused 15 j
-fault_outcome Nowhere = answered 0
+abbrev pub fault_outcome : Option SlotFault → Outcome ℕ
+fault_outcome (Some (Misplaced j)) = refused 14 j
+fault_outcome (Some (Repeated j)) = refused 15 j
+fault_outcome None = answered 0

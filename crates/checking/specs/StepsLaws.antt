@@ -1,10 +1,8 @@
 -- Each step of checking, by what the lines read as and by what the earlier steps have passed. Assumes nothing.
-use Rattle.std.specs.Prelude.{◌≡◌, ◌⊎◌, List, [], ◌∷◌, get_or, set}
+use Rattle.std.specs.Prelude.{◌≡◌, ◌⊎◌, List, [], ◌∷◌, get_or, set, Option, None, Some, unwrap_or}
 use Rattle.std.proofs.Math.Path.{refl, ap}
 use Rattle.std.proofs.Common.{sym, ◌∙◌, inl, inr, eq-or-lt_of_le, length-set, get_or-set_same, lt-ltb, le-ltb}
 use Rattle.std.proofs.Math.Bool.{false, not}
-use Rattle.std.proofs.Math.Option
-use Rattle.std.proofs.Math.Option.{Option, none, some}
 use Prim.Native.Nat.{ℕ, zero, suc, ◌+◌, ◌-◌, ◌≤◌, ◌<◌}
 use native.Mathlib.Omega.{arith}
 use Rattle.std.proofs.Math.Decide.{dec_lt}
@@ -56,12 +54,12 @@ module _ (image : List ℕ) {count groups : ℕ} (opens : Opens image count grou
   header_read = go (view_of image).header refl
     where
       go : (o : Option (ℕ × ℕ)) → (view_of image).header ≡ o → not (is_some o) ≡ false
-      go (some h) e = refl
-      go none e =
-          let empty : groups_in (view_of image) ≡ 0 = ap (λ (o : Option (ℕ × ℕ)). (Option.get_or o (0, 0)).1) e in
+      go (Some h) e = refl
+      go None e =
+          let empty : groups_in (view_of image) ≡ 0 = ap (λ (o : Option (ℕ × ℕ)). (unwrap_or o (0, 0)).1) e in
           absurd (omega (arith, opens.groups-some, opens.groups-is))
 
-  pub lines_start : first (malformed_in (view_of image)) 1 ≡ none
+  pub lines_start : first (malformed_in (view_of image)) 1 ≡ None
   lines_start = first_out (malformed_in (view_of image)) 1 (λ j lt. let z : j ≡ 0 = omega arith in rw z header_read)
 
   -- Line k, as a group line and as a slot line.
@@ -90,7 +88,7 @@ module _ (image : List ℕ) {count groups : ℕ} (opens : Opens image count grou
     end = get_or-set_same starts groups count 0 (omega (arith, opens.groups-legal));
   }
 
-  pub groups-turn : (g start seed : ℕ) (starts seeds : List ℕ) → g < groups → group_line (line_at (1 + g) image) ≡ some (start, seed)
+  pub groups-turn : (g start seed : ℕ) (starts seeds : List ℕ) → g < groups → group_line (line_at (1 + g) image) ≡ Some (start, seed)
       → GroupsStored (view_of image) count groups (1 + g) starts seeds
       → GroupsStored (view_of image) count groups (1 + (g + 1)) (set starts g start) (set seeds g seed)
   unfolding start_in seed_in view_of
@@ -105,7 +103,7 @@ module _ (image : List ℕ) {count groups : ℕ} (opens : Opens image count grou
       }
 
   -- Behind the group lines the first line that is no tag's is the first malformed one,
-  pub slot-lines : first (malformed_in (view_of image)) (1 + groups) ≡ none
+  pub slot-lines : first (malformed_in (view_of image)) (1 + groups) ≡ None
       → first (no_tag_from (1 + groups) image) (1 + groups + count) ≡ first (malformed_in (view_of image)) (1 + groups + count)
   slot-lines before =
       first_cong (no_tag_from (1 + groups) image) (malformed_in (view_of image)) (1 + groups + count)
@@ -137,17 +135,17 @@ module _ (image : List ℕ) {count groups : ℕ} (opens : Opens image count grou
     where
       within : (o : Option ℕ) → o ≡ first (no_tag_from (1 + groups) image) (1 + groups + count)
           → lines_before o (1 + groups + count) ≤ 1 + groups + count
-      within none e = omega arith
-      within (some k) e = omega (arith, (first_some (no_tag_from (1 + groups) image) (1 + groups + count) (sym e)).below)
+      within None e = omega arith
+      within (Some k) e = omega (arith, (first_some (no_tag_from (1 + groups) image) (1 + groups + count) (sym e)).below)
 
   -- A seed is in its range.
   seed-legal : (g : ℕ) → seed_in (view_of image) g ≤ seed_max
   unfolding seed_in view_of
   seed-legal g = go (group_line (line_at (suc g) image)) refl
     where
-      go : (o : Option (ℕ × ℕ)) → group_line (line_at (suc g) image) ≡ o → (Option.get_or o (0, 0)).1 ≤ seed_max
-      go none e = omega arith
-      go (some (start, seed)) e = (group-only start seed (line_at (suc g) image) e).2
+      go : (o : Option (ℕ × ℕ)) → group_line (line_at (suc g) image) ≡ o → (unwrap_or o (0, 0)).1 ≤ seed_max
+      go None e = omega arith
+      go (Some (start, seed)) e = (group-only start seed (line_at (suc g) image) e).2
 
   -- Where every line is read, the cells hold the image's numbers, and these are in their ranges.
   module _ {starts seeds : List ℕ} (stored : GroupsStored (view_of image) count groups (1 + groups) starts seeds) where
@@ -178,7 +176,7 @@ pub not-both : {o : Outcome ℕ} {number place a : ℕ} → o ≡ refused number
 not-both e f = absurd (let z : ◌≡◌ {A = ℕ} 0 1 = cc in omega arith)
 
 -- No group is faulty.
-pub regular-of : (starts seeds : List ℕ) (groups : ℕ) → Legal starts seeds groups → first (faulty_at starts) groups ≡ none
+pub regular-of : (starts seeds : List ℕ) (groups : ℕ) → Legal starts seeds groups → first (faulty_at starts) groups ≡ None
     → Regular starts seeds groups
 regular-of starts seeds groups legal e = record {
   legal = legal;
@@ -202,19 +200,19 @@ module _ (starts seeds tags : List ℕ) (groups : ℕ) where
       ∙ first_cong _ _ groups (λ g below. rw (cells-start starts seeds tags groups g, cells-end starts seeds tags groups g below))
 
   -- The lowest slot that holds 0 decides,
-  pub numbers-unwired : {j : ℕ} → first (unwired_at tags) (get_or starts groups 0) ≡ some j
+  pub numbers-unwired : {j : ℕ} → first (unwired_at tags) (get_or starts groups 0) ≡ Some j
       → in_order {A = ℕ} (number_checks cells) (answered 0) ≡ refused 17 j
   unfolding number_checks in_order
   numbers-unwired e = rw (unwired-cells, e)
 
   -- and where none does, the lowest faulty group, and then the fault of the slots.
-  module _ (wired : first (unwired_at tags) (get_or starts groups 0) ≡ none) where
-    pub numbers-faulty : {g : ℕ} → first (faulty_at starts) groups ≡ some g
+  module _ (wired : first (unwired_at tags) (get_or starts groups 0) ≡ None) where
+    pub numbers-faulty : {g : ℕ} → first (faulty_at starts) groups ≡ Some g
         → in_order {A = ℕ} (number_checks cells) (answered 0) ≡ refused 13 g
     unfolding number_checks in_order
     numbers-faulty e = rw (unwired-cells, wired, faulty-cells, e)
 
-    pub numbers-slots : first (faulty_at starts) groups ≡ none
+    pub numbers-slots : first (faulty_at starts) groups ≡ None
         → in_order (number_checks cells) (answered 0) ≡ fault_outcome (fault_before cells (get_or starts groups 0))
     unfolding number_checks in_order fault_before
     numbers-slots e =
@@ -222,9 +220,9 @@ module _ (starts seeds tags : List ℕ) (groups : ℕ) where
         (go (first (misplaced cells) (get_or starts groups 0)) (first (repeated cells) (get_or starts groups 0)))
       where
         go : (o p : Option ℕ) → in_order ((14, o) ∷ (15, p) ∷ []) (answered 0) ≡ fault_outcome (fault_of o p)
-        go (some j) p = refl
-        go none (some j) = refl
-        go none none = refl
+        go (Some j) p = refl
+        go None (Some j) = refl
+        go None None = refl
 
 -- Views that state the same numbers are checked alike.
 same_numbers : (v w : View) → SameNumbers v w → in_order {A = ℕ} (number_checks v) (answered 0) ≡ in_order (number_checks w) (answered 0)
@@ -242,20 +240,20 @@ module _ (image : List ℕ) {count groups : ℕ} (opened : opening_of image ≡ 
   opens : Opens image count groups
   opens = opening-answered image opened
 
-  pub check-line : {k : ℕ} → first (malformed_in (view_of image)) (1 + groups + count) ≡ some k → checking_of image ≡ refused 12 k
+  pub check-line : {k : ℕ} → first (malformed_in (view_of image)) (1 + groups + count) ≡ Some k → checking_of image ≡ refused 12 k
   unfolding checking_of checking_checks in_order
   check-line e =
       in_order-append (opening_checks (view_of image)) _ _ ∙ opening-passes image opened _ ∙ rw (opens.groups-is, opens.count-is, e)
 
-  pub check-group-line : {k : ℕ} → first (malformed_in (view_of image)) (1 + groups) ≡ some k → checking_of image ≡ refused 12 k
+  pub check-group-line : {k : ℕ} → first (malformed_in (view_of image)) (1 + groups) ≡ Some k → checking_of image ≡ refused 12 k
   check-group-line e = check-line (first_more (malformed_in (view_of image)) (1 + groups) (1 + groups + count) (omega arith) e)
 
-  lines-passed : first (malformed_in (view_of image)) (1 + groups + count) ≡ none
+  lines-passed : first (malformed_in (view_of image)) (1 + groups + count) ≡ None
       → checking_of image ≡ in_order (number_checks (view_of image)) (answered 0)
   unfolding checking_of checking_checks in_order
   lines-passed e =
       in_order-append (opening_checks (view_of image)) _ _ ∙ opening-passes image opened _ ∙ rw (opens.groups-is, opens.count-is, e)
 
-  pub check-numbers : (w : View) → first (malformed_in (view_of image)) (1 + groups + count) ≡ none → SameNumbers (view_of image) w
+  pub check-numbers : (w : View) → first (malformed_in (view_of image)) (1 + groups + count) ≡ None → SameNumbers (view_of image) w
       → checking_of image ≡ in_order (number_checks w) (answered 0)
   check-numbers w lines same = lines-passed lines ∙ same_numbers (view_of image) w same

@@ -10,7 +10,6 @@ ghost use Rattle.condition3.specs.Condition3.{Condition3};
 ghost use Rattle.lookup.specs.Answer.{lookup_outcome};
 ghost use Rattle.claim.specs.Claim.{claim_of};
 
-use building::BuildAnswer;
 use lookup::LookupAnswer;
 
 // Builds, and looks the tag up in the written image: the buffer's first bytes, as many as building answers. For any list, B, L, buffer
@@ -30,7 +29,7 @@ pub fn build_then_look_up(
         (building_of tags.now groups limit (length buffer.old)) buffer.new }
 {
     match building::build(tags, groups, limit, plan, buffer) {
-        BuildAnswer::Built(size) => lookup::lookup(&buffer[..size], tag),
-        BuildAnswer::Refused(refusal) => LookupAnswer::Refused(refusal),
+        Ok(size) => lookup::lookup(&buffer[..size], tag),
+        Err(refusal) => LookupAnswer::Refused(refusal),
     }
 }

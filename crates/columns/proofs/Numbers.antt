@@ -1,7 +1,7 @@
 -- The numbers of eight columns, made two columns at a time from a word of their digits. Assumes nothing.
 use mathlib.Core.Path.{◌≡◌, sym, ◌∙◌}
 use mathlib.Core.List.{List, [], ◌∷◌, ◌++◌}
-use mathlib.Core.Option.{Option, none, some}
+use Rattle.std.specs.Prelude.{Option, None, Some}
 use Prim.Native.Nat.{ℕ, ◌+◌, ◌*◌, ◌/◌, ◌%◌, ◌-◌, ◌≤◌, ◌<◌}
 use native.Mathlib.Omega.{arith}
 use lib.Bits.{bit_and, and_block, and_mask, and_le_r, and_zero_r}
@@ -103,7 +103,7 @@ module _ {line : List ℕ} {second word : ℕ} (p : Packed line second word) (ca
   unfolding each
   digits_are = rw word-is (low-packed bytes (eight-small line second p.small))
 
-  pub no-digits : (bit_and (digits + 434041037028460038) 1157442765409226768 ≡ 0 → ⊥) → none ≡ answer
+  pub no-digits : (bit_and (digits + 434041037028460038) 1157442765409226768 ≡ 0 → ⊥) → None ≡ answer
   unfolding written each columns_read
   no-digits other =
       rw (answer-is, ne_eqb (bit_and (packed (low bytes) + 434041037028460038) 1157442765409226768) 0 (λ z. other (rw digits_are z)))
@@ -112,7 +112,7 @@ module _ {line : List ℕ} {second word : ℕ} (p : Packed line second word) (ca
     abbrev expected : ℕ
     expected = packed (low bytes) + 3472328296227680304 - bit_and (packed (low bytes) + carry) 1157442765409226768
 
-    pub other-spaces : (word ≡ digits + 3472328296227680304 - bit_and (digits + carry) 1157442765409226768 → ⊥) → none ≡ answer
+    pub other-spaces : (word ≡ digits + 3472328296227680304 - bit_and (digits + carry) 1157442765409226768 → ⊥) → None ≡ answer
     unfolding written each columns_read
     other-spaces other =
         let z = rw digits_are at clear in
@@ -126,7 +126,7 @@ module _ {line : List ℕ} {second word : ℕ} (p : Packed line second word) (ca
         (rw digits_are (fours-made _ _ _ _ _ _ _ _ i j k l m n o p ∙ omega arith), omega arith)
 
     pub columns-read : word ≡ digits + 3472328296227680304 - bit_and (digits + carry) 1157442765409226768
-        → some (fours_of (pairs_of digits) % 65536, fours_of (pairs_of digits) / 4294967296) ≡ answer
+        → Some (fours_of (pairs_of digits) % 65536, fours_of (pairs_of digits) / 4294967296) ≡ answer
     unfolding written each columns_read
     columns-read spaced =
         let z = rw digits_are at clear in

@@ -2,7 +2,8 @@
 use mathlib.Core.Path.{◌≡◌, refl, sym, ◌∙◌, ap}
 use mathlib.Core.Bool.{Bool, true, false, cond, ◌&&◌}
 use mathlib.Core.List.{List, [], ◌∷◌, ◌++◌}
-use mathlib.Core.Option.{Option, none, some, map, none-ne-some}
+use Rattle.std.specs.Prelude.{Option, None, Some, option_map}
+use Rattle.std.proofs.lemmas.Option.{none-some}
 use Prim.Native.Nat.{ℕ, zero, suc, ◌+◌, ◌*◌, ◌-◌, ◌/◌, ◌%◌, ◌≤◌, ◌<◌}
 use native.Mathlib.Omega.{arith}
 use lib.Bits.{bit_and, and_block, and_le_r}
@@ -51,7 +52,7 @@ columns-bytes v (d ∷ ds) h = (column-byte (v * 10 + d) d h.0, columns-bytes (v
 
 -- Bytes read as leading columns exactly where they are those of their digits.
 leading-columns : (v : ℕ) (bytes : List ℕ) → Below 10 (low bytes) → bytes ≡ columns_from v (low bytes)
-    → leading_from v bytes ≡ some (value_behind v (low bytes))
+    → leading_from v bytes ≡ Some (value_behind v (low bytes))
 unfolding leading_from columns_from low value_behind Below
 leading-columns v [] h e = refl
 leading-columns v (byte ∷ bytes) h e =
@@ -60,7 +61,7 @@ leading-columns v (byte ∷ bytes) h e =
     rw (lt-ltb (byte % 16) 10 h.0, eq-eqb byte (column_of (v * 10 + byte % 16) (byte % 16)) first)
     (leading-columns (v * 10 + byte % 16) bytes h.1 rest)
 
-leading-only : (v n : ℕ) (bytes : List ℕ) → leading_from v bytes ≡ some n → Below 10 (low bytes) × (bytes ≡ columns_from v (low bytes))
+leading-only : (v n : ℕ) (bytes : List ℕ) → leading_from v bytes ≡ Some n → Below 10 (low bytes) × (bytes ≡ columns_from v (low bytes))
 unfolding leading_from columns_from low Below
 leading-only v n [] e = (tt, refl)
 leading-only v n (byte ∷ bytes) e =
@@ -86,8 +87,8 @@ clear zero (d ∷ []) l h =
 clear (suc k) (d ∷ ds) l h =
     let more = packed ds + carry k + 1 in
     let sum : d + 256 * packed ds + (255 + 256 * carry k) + 1 ≡ d + 256 * more = omega arith in
-    let none : d / 16 ≡ 0 = omega (arith, h.0) in
-    rw (sum, and_byte d 16 more (each (suc k) 16) (omega (arith, h.0)) (lit< tt), bit-sixteen d, none, clear k ds (omega arith) h.1)
+    let None : d / 16 ≡ 0 = omega (arith, h.0) in
+    rw (sum, and_byte d 16 more (each (suc k) 16) (omega (arith, h.0)) (lit< tt), bit-sixteen d, None, clear k ds (omega arith) h.1)
 
 -- Behind a number that is not 0 every column is a digit.
 columns-digits : (v : ℕ) (ds : List ℕ) → 0 < v → packed (columns_from v ds) ≡ packed ds + each (length ds) 48
@@ -128,7 +129,7 @@ columns-word (suc k) (d ∷ ds) l h = go (columns-word k ds (omega arith) h.1) (
         let n : d ≡ 0 → ⊥ = eqb-false d 0 e in
         let more = packed ds + carry k + 1 in
         let sum : d + 256 * packed ds + (255 + 256 * carry k) ≡ d - 1 + 256 * more = omega (arith, n) in
-        let none : (d - 1) / 16 ≡ 0 = omega (arith, h.0) in
+        let None : (d - 1) / 16 ≡ 0 = omega (arith, h.0) in
         let tail : length ds ≡ suc k = omega arith in
         rw (
           column-digit (0 * 10 + d) d (omega (arith, n)),
@@ -136,7 +137,7 @@ columns-word (suc k) (d ∷ ds) l h = go (columns-word k ds (omega arith) h.1) (
           sum,
           and_byte (d - 1) 16 more (each (suc k) 16) (omega (arith, h.0)) (lit< tt),
           bit-sixteen (d - 1),
-          none,
+          None,
           clear k ds tail h.1,
           tail,
         )
@@ -154,7 +155,7 @@ module _ (k : ℕ) (bytes : List ℕ) (long : length bytes ≡ suc k) (small : B
   sixes : ℕ
   sixes = bit_and (packed (low bytes) + each (length bytes) 6) (each (length bytes) 16)
 
-  tested : (p q : Bool) → eqb sixes 0 ≡ p → eqb (packed bytes) expected ≡ q → leading_from 0 bytes ≡ none → (p && q) ≡ false
+  tested : (p q : Bool) → eqb sixes 0 ≡ p → eqb (packed bytes) expected ≡ q → leading_from 0 bytes ≡ None → (p && q) ≡ false
   unfolding sixes
   tested false q f g e = refl
   tested true false f g e = refl
@@ -162,15 +163,15 @@ module _ (k : ℕ) (bytes : List ℕ) (long : length bytes ≡ suc k) (small : B
       let digits = digits-only bytes (eqb-true sixes 0 f) in
       let same = packed-same bytes (columns_from 0 (low bytes)) (sym (columns-length 0 (low bytes) ∙ low-length bytes)) small
       (columns-bytes 0 (low bytes) digits) (eqb-true (packed bytes) expected g ∙ sym (columns-expected digits)) in
-      absurd (none-ne-some (value_behind 0 (low bytes)) (sym e ∙ leading-columns 0 bytes digits same))
+      absurd (none-some (value_behind 0 (low bytes)) (sym e ∙ leading-columns 0 bytes digits same))
 
-  pub written-leading : cond (written (carry k) bytes) (some (number_in bytes)) none ≡ leading_from 0 bytes
+  pub written-leading : cond (written (carry k) bytes) (Some (number_in bytes)) None ≡ leading_from 0 bytes
   unfolding written number_in expected sixes
   written-leading = go (leading_from 0 bytes) refl
     where
-      go : (o : Option ℕ) → leading_from 0 bytes ≡ o → cond (written (carry k) bytes) (some (number_in bytes)) none ≡ leading_from 0 bytes
-      go none e = rw (e, tested (eqb sixes 0) (eqb (packed bytes) expected) refl refl e)
-      go (some n) e =
+      go : (o : Option ℕ) → leading_from 0 bytes ≡ o → cond (written (carry k) bytes) (Some (number_in bytes)) None ≡ leading_from 0 bytes
+      go None e = rw (e, tested (eqb sixes 0) (eqb (packed bytes) expected) refl refl e)
+      go (Some n) e =
           let (digits, same) = leading-only 0 n bytes e in
           let packs : packed bytes ≡ expected = ap packed same ∙ columns-expected digits in
           rw (eq-eqb sixes 0 (digits-clear bytes digits), eq-eqb (packed bytes) expected packs) (sym (leading-columns 0 bytes digits same))
@@ -216,11 +217,11 @@ and-swap true false true s = refl
 and-swap true false false s = refl
 
 cond_map : (p : Bool) (m n : ℕ)
-    → map (λ (x : ℕ × ℕ). x.0 * 10000 + x.1) (cond p (some (m, n)) none) ≡ cond p (some (m * 10000 + n)) none
+    → option_map (λ (x : ℕ × ℕ). x.0 * 10000 + x.1) (cond p (Some (m, n)) None) ≡ cond p (Some (m * 10000 + n)) None
 cond_map true m n = refl
 cond_map false m n = refl
 
-cond_both : (p q : Bool) (m n : ℕ) → cond (p && q) (some (m, n)) none ≡ both (cond p (some m) none) (cond q (some n) none)
+cond_both : (p q : Bool) (m n : ℕ) → cond (p && q) (Some (m, n)) None ≡ both (cond p (Some m) None) (cond q (Some n) None)
 unfolding both
 cond_both true true m n = refl
 cond_both true false m n = refl
@@ -278,7 +279,7 @@ module _ (a b c d e f g h : ℕ) (small : Below 256 (a ∷ b ∷ c ∷ d ∷ e �
       (cond_both (written 2147483647 first) (written 2147483647 last) (number_in first) (number_in last))
 
   eight-leading : (o : Option (ℕ × ℕ)) → o ≡ columns_read 9223372036854775807 first last
-      → map (λ (x : ℕ × ℕ). x.0 * 10000 + x.1) o ≡ leading_from 0 (first ++ last)
+      → option_map (λ (x : ℕ × ℕ). x.0 * 10000 + x.1) o ≡ leading_from 0 (first ++ last)
   unfolding carry number_in low value_behind columns_read
   eight-leading o e =
       let value : number_in first * 10000 + number_in last ≡ number_in (first ++ last) = omega arith in
@@ -292,7 +293,7 @@ module _ (line : List ℕ) (small : (k : ℕ) → get_or line k 0 < 256) where
       rw (four-bytes-at line 0 (omega arith), four-bytes-at line 5 (omega arith)) (fours-leading _ _ _ _ _ _ _ _ (eight-small line 5 small))
 
   pub line-eight : 8 ≤ length line → (o : Option (ℕ × ℕ)) → o ≡ columns_read 9223372036854775807 (take 4 line) (take 4 (drop 4 line))
-      → map (λ (x : ℕ × ℕ). x.0 * 10000 + x.1) o ≡ leading_from 0 (take 8 line)
+      → option_map (λ (x : ℕ × ℕ). x.0 * 10000 + x.1) o ≡ leading_from 0 (take 8 line)
   line-eight room o e =
       let first = four-bytes-at line 0 (omega arith) in
       let last = four-bytes-at line 4 (omega arith) in

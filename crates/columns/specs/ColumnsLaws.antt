@@ -1,14 +1,14 @@
 -- Laws of leading columns: further columns, and the first. Assumes nothing.
 use Rattle.std.specs.Prelude.{◌≡◌, refl, Bool, true, false, cond, ◌&&◌, List, [], ◌∷◌, ◌++◌, ℕ, ◌+◌, ◌*◌, ◌%◌, ◌<◌, eqb, ltb}
-use Rattle.std.proofs.Math.Option.{Option, none, some}
+use Rattle.std.specs.Prelude.{Option, None, Some}
 use Rattle.std.proofs.Common.{eqb-true, ltb-true}
 use Rattle.lists.proofs.BoolLaws.{both-of-and, some-of-cond}
 use Rattle.columns.specs.Columns.{column_of, leading_from}
 
 -- What further columns make of the number before them.
 unfoldable pub leading_behind : Option ℕ → List ℕ → Option ℕ
-leading_behind none bytes = none
-leading_behind (some v) bytes = leading_from v bytes
+leading_behind None bytes = None
+leading_behind (Some v) bytes = leading_from v bytes
 
 pub leading-append : (v : ℕ) (xs ys : List ℕ) → leading_from v (xs ++ ys) ≡ leading_behind (leading_from v xs) ys
 unfolding leading_from leading_behind
@@ -16,7 +16,7 @@ leading-append v [] ys = refl
 leading-append v (x ∷ xs) ys =
     go (ltb (x % 16) 10 && eqb x (column_of (v * 10 + x % 16) (x % 16))) _ (leading-append (v * 10 + x % 16) xs ys)
   where
-    go : (b : Bool) {o : Option ℕ} (p : Option ℕ) → o ≡ leading_behind p ys → cond b o none ≡ leading_behind (cond b p none) ys
+    go : (b : Bool) {o : Option ℕ} (p : Option ℕ) → o ≡ leading_behind p ys → cond b o None ≡ leading_behind (cond b p None) ys
     go true p e = e
     go false p e = refl
 
@@ -24,9 +24,9 @@ leading-append v (x ∷ xs) ys =
 pub record Column (v byte : ℕ) (bytes : List ℕ) (n : ℕ) : Type 0 where
   pub digit : byte % 16 < 10
   pub byte-is : byte ≡ column_of (v * 10 + byte % 16) (byte % 16)
-  pub rest : leading_from (v * 10 + byte % 16) bytes ≡ some n
+  pub rest : leading_from (v * 10 + byte % 16) bytes ≡ Some n
 
-pub leading-first : (v byte : ℕ) (bytes : List ℕ) {n : ℕ} → leading_from v (byte ∷ bytes) ≡ some n → Column v byte bytes n
+pub leading-first : (v byte : ℕ) (bytes : List ℕ) {n : ℕ} → leading_from v (byte ∷ bytes) ≡ Some n → Column v byte bytes n
 unfolding leading_from
 leading-first v byte bytes e =
     let column = column_of (v * 10 + byte % 16) (byte % 16) in

@@ -1,4 +1,3 @@
 pub mod Columns
 pub mod ColumnsLaws
 pub mod Word
-pub mod Answer

@@ -1,6 +1,5 @@
 -- What is tested of bytes in one word. Assumes nothing.
-use Rattle.std.specs.Prelude.{ℕ, zero, suc, ◌+◌, ◌*◌, ◌-◌, ◌%◌, Bool, cond, ◌&&◌, List, [], ◌∷◌, ◌++◌, eqb, length}
-use Rattle.std.proofs.Math.Option.{Option, none, some}
+use Rattle.std.specs.Prelude.{ℕ, zero, suc, ◌+◌, ◌*◌, ◌-◌, ◌%◌, Bool, cond, ◌&&◌, List, [], ◌∷◌, ◌++◌, eqb, length, Option, None, Some}
 use Rattle.std.specs.Int.Bits.{bit_and}
 use Rattle.digits.specs.Digits.{packed}
 
@@ -33,4 +32,4 @@ written carry bytes =
 
 -- The numbers in four columns and four others, where all are written so.
 unfoldable pub columns_read : ℕ → List ℕ → List ℕ → Option (ℕ × ℕ)
-columns_read carry first last = cond (written carry (first ++ last)) (some (number_in first, number_in last)) none
+columns_read carry first last = cond (written carry (first ++ last)) (Some (number_in first, number_in last)) None

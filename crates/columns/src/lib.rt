@@ -5,64 +5,47 @@ ghost use Rattle.std.specs.Prelude.{◌≡◌, ◌+◌, ◌*◌, ◌≤◌, ◌<
 ghost use Rattle.digits.specs.Digits.{packed};
 ghost use Rattle.columns.specs.Columns.{leading_from, fours_in};
 ghost use Rattle.columns.specs.Word.{columns_read};
-ghost use Rattle.columns.specs.Answer.{fours_meaning, eight_meaning};
-
-// The numbers whose leading columns four bytes and four bytes are.
-#[derive(Drop)]
-pub enum Fours {
-    Numbers(u16, u16),
-    Other,
-}
-
-// The number whose leading columns eight bytes are.
-#[derive(Drop)]
-pub enum Eight {
-    Number(u32),
-    Other,
-}
 
 // Reads the leading columns of a line's two fields: its first four columns, and four from the sixth on.
-pub fn two_fours(line: &[u8]) -> Fours
+pub fn two_fours(line: &[u8]) -> Option<(u16, u16)>
     requires { 9 ≤ length line.now }
-    ensures answer { fours_meaning result ≡ fours_in line.now }
+    ensures answer { result ≡ fours_in line.now }
 {
     read_columns(line, 5, 0x7fffffff7fffffff)
 }
 
 // Reads the first eight columns of a line's one field.
-pub fn eight_columns(line: &[u8]) -> Eight
+pub fn eight_columns(line: &[u8]) -> Option<u32>
     requires { 8 ≤ length line.now }
-    ensures answer { eight_meaning result ≡ leading_from 0 (take 8 line.now) }
+    ensures answer { result ≡ leading_from 0 (take 8 line.now) }
 {
-    let Fours::Numbers(first, last) = read_columns(line, 4, 0x7fffffffffffffff) else {
-        return Eight::Other;
-    };
-    Eight::Number(first as u32 * 10000 + last as u32)
+    let (first, last) = read_columns(line, 4, 0x7fffffffffffffff)?;
+    Some(first as u32 * 10000 + last as u32)
 }
 
 // Reads the first four columns and four from `second` on, of digits and spaces. A space counts as the digit 0, and stands where
 // adding `carry` to the digits sets bit 16 of its byte: with 255 for each column and 127 for the last, that is in every column
 // before the first other digit.
-fn read_columns(line: &[u8], second: usize, carry: u64) -> Fours
+fn read_columns(line: &[u8], second: usize, carry: u64) -> Option<(u16, u16)>
     requires le_second { (4 ≤ second) × (second + 4 ≤ length line.now) }
     requires carry_bound { carry < 9223372036854775808 }
-    ensures answer { fours_meaning result ≡ columns_read carry (take 4 line.now) (take 4 (drop second line.now)) }
+    ensures answer { result ≡ columns_read carry (take 4 line.now) (take 4 (drop second line.now)) }
 {
     let word = four_bytes(line, 0) + four_bytes(line, second) * 4294967296;
     let digits = word & 0x0f0f0f0f0f0f0f0f;
     // Half a byte above 9 comes to 16 or more.
     if (digits + 0x0606060606060606) & 0x1010101010101010 != 0 {
-        return Fours::Other;
+        return None;
     }
     // A space is 16 below '0'.
     let spaces = (digits + carry) & 0x1010101010101010;
     if word != digits + 0x3030303030303030 - spaces {
-        return Fours::Other;
+        return None;
     }
     // Two columns at once, and then two of these: each number is made where its first digit stands.
     let pairs = (digits * 10 + digits / 256) & 0x00ff00ff00ff00ff;
     let fours = (pairs * 100 + pairs / 65536) & 0x0000ffff0000ffff;
-    Fours::Numbers((fours % 65536) as u16, (fours / 4294967296) as u16)
+    Some(((fours % 65536) as u16, (fours / 4294967296) as u16))
 }
 
 // Four bytes of a text in a word. The compiler makes one load of them.

@@ -2,7 +2,7 @@
 -- and use none of the record's names but its own. Assumes nothing.
 use Rattle.std.specs.Prelude.{◌≡◌, refl, ◌↔◌, Bool, true, false, not, List, ℕ, suc, ◌+◌, ◌*◌, ◌≤◌, ◌<◌, ltb, length, get_or, take}
 use Rattle.std.proofs.Common.{sym, ◌∙◌, arith, ltb-true, ltb-false}
-use Rattle.std.proofs.Math.Option.{Option, none, some}
+use Rattle.std.specs.Prelude.{Option, None, Some}
 use Rattle.std.proofs.lemmas.Bool.{not-true, not-false}
 use Rattle.refusal.specs.Limits.{tag_end, tags_max, groups_max, limit_max, group_max}
 use Rattle.refusal.specs.Outcome.{Outcome, answered, refused}
@@ -188,10 +188,10 @@ module _ {tags : List ℕ} {groups limit room : ℕ} {plan : List ℕ} {answer :
       short-otherwise = c.too_short checks not-without
 
     -- A group has such a seed, or it has none: the search for the least decides it.
-    seed-of : (g : ℕ) {s : ℕ} → least_seed (members groups g tags) limit ≡ some s → Seed tags groups limit g
+    seed-of : (g : ℕ) {s : ℕ} → least_seed (members groups g tags) limit ≡ Some s → Seed tags groups limit g
     seed-of g {s} e = let found = least_seed-some (members groups g tags) limit e in (s, found.below, (_, found.fills))
 
-    without-of : (g : ℕ) → least_seed (members groups g tags) limit ≡ none → (s : ℕ) → s < limit → Nothing tags groups g s
+    without-of : (g : ℕ) → least_seed (members groups g tags) limit ≡ None → (s : ℕ) → s < limit → Nothing tags groups g s
     without-of g e = least_seed-none (members groups g tags) limit e
 
     -- "is refused for want of a seed exactly when some group has no seed below the limit under which such a sequence exists,
@@ -208,10 +208,10 @@ module _ {tags : List ℕ} {groups limit room : ℕ} {plan : List ℕ} {answer :
 
         lowest : (g : ℕ) → g < groups → (Seed tags groups limit g → ⊥) → (o : Option ℕ) → first test groups ≡ o
             → (g : ℕ) × (answer ≡ refused 7 g)
-        lowest g lt without none e =
+        lowest g lt without None e =
             let has = some-of-is_some _ (not-false _ (first-none test groups e g lt)) in
             absurd (without (seed-of g has.1))
-        lowest g lt without (some k) e =
+        lowest g lt without (Some k) e =
             let at = first_some test groups e in (
               k,
               (refused-exactly k).1 (

@@ -1,10 +1,9 @@
 -- An image made from seeds and sequences that fill every group: checking accepts it, and lookup answers the tags' numbers.
 -- Assumes nothing.
-use Rattle.std.specs.Prelude.{◌≡◌, ◌⊎◌, ◌&&◌, List}
+use Rattle.std.specs.Prelude.{◌≡◌, ◌⊎◌, ◌&&◌, List, Option, Some, unwrap_or}
 use Rattle.std.proofs.Math.Path.{refl, sym, ap}
 use Rattle.std.proofs.Common.{◌∙◌, inl, inr}
 use Rattle.std.proofs.Math.Bool.{Bool, true, false, cond, and-false}
-use Rattle.std.proofs.Math.Option.{Option, some, get_or}
 use Prim.Native.Nat.{ℕ, suc, ◌+◌, ◌-◌, ◌*◌, ◌^◌, ◌≤◌, ◌<◌}
 use native.Mathlib.Omega.{arith}
 use Rattle.std.proofs.Math.Dec.{eqb, leb, ltb}
@@ -38,9 +37,9 @@ use Rattle.numbering.specs.Writing.{sheet_of}
 -- A view that reads as a sheet states.
 pub record Reads (v : View) (s : Sheet) : Type 0 where
   pub size : v.size ≡ image_length s.groups s.count
-  pub header : v.header ≡ some (s.count, s.groups)
-  pub group : (g : ℕ) → g < s.groups → v.group_at (suc g) ≡ some (s.start g, s.seed g)
-  pub slot : (j : ℕ) → j < s.count → v.slot_at (1 + s.groups + j) ≡ some (s.slot j)
+  pub header : v.header ≡ Some (s.count, s.groups)
+  pub group : (g : ℕ) → g < s.groups → v.group_at (suc g) ≡ Some (s.start g, s.seed g)
+  pub slot : (j : ℕ) → j < s.count → v.slot_at (1 + s.groups + j) ≡ Some (s.slot j)
 
 -- The numbers of a sheet fit their fields.
 pub record InRange (s : Sheet) : Type 0 where
@@ -77,11 +76,11 @@ module _ {v : View} {groups : ℕ} {tags : List ℕ} {seed : ℕ → ℕ} {choic
 
   pub start_is : (g : ℕ) → g < groups → start_in v g ≡ start_of groups g tags
   unfolding start_in sheet_of
-  start_is g lt = ap (λ (o : Option (ℕ × ℕ)). (get_or o (0, 0)).0) (reads.group g lt)
+  start_is g lt = ap (λ (o : Option (ℕ × ℕ)). (unwrap_or o (0, 0)).0) (reads.group g lt)
 
   pub seed-is : (g : ℕ) → g < groups → seed_in v g ≡ seed g
   unfolding seed_in sheet_of
-  seed-is g lt = ap (λ (o : Option (ℕ × ℕ)). (get_or o (0, 0)).1) (reads.group g lt)
+  seed-is g lt = ap (λ (o : Option (ℕ × ℕ)). (unwrap_or o (0, 0)).1) (reads.group g lt)
 
   pub end_is : (g : ℕ) → g < groups → end_in v g ≡ start_of groups (suc g) tags
   unfolding end_in
@@ -97,7 +96,7 @@ module _ {v : View} {groups : ℕ} {tags : List ℕ} {seed : ℕ → ℕ} {choic
   abbrev tag_at : ℕ → ℕ
   tag_at j = tag_numbered (number_of groups tags seed choices) tags j
 
-  pub slot_is : (j : ℕ) → j < length tags → v.slot_at (slot_line_in v j) ≡ some (tag_at j)
+  pub slot_is : (j : ℕ) → j < length tags → v.slot_at (slot_line_in v j) ≡ Some (tag_at j)
   unfolding slot_line_in sheet_of
   slot_is j lt = rw groups-is (reads.slot j lt)
 

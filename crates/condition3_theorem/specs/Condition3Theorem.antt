@@ -1,10 +1,9 @@
 -- Condition 3 holds of planning, writing and building as they are defined, for every list, group count, seed limit, plan and buffer.
 -- Assumes nothing.
-use Rattle.std.specs.Prelude.{◌≡◌, refl, Bool, true, cond, List, ℕ, ◌+◌, ◌*◌, ◌≤◌, ◌<◌, length, get_or, take, drop}
+use Rattle.std.specs.Prelude.{◌≡◌, refl, Bool, true, cond, List, ℕ, ◌+◌, ◌*◌, ◌≤◌, ◌<◌, length, get_or, take, drop, Option, None, Some}
 use Rattle.std.proofs.Math.Path.{sym}
 use Rattle.std.proofs.Common.{◌∙◌, arith, take_at}
 use Rattle.std.proofs.Math.Bool.{false}
-use Rattle.std.proofs.Math.Option.{Option, none, some}
 use borrow.Author.Tests.{ltb-false, le-ltb, not-true}
 use Rattle.refusal.specs.Limits.{tag_end, tags_max, groups_max, group_max, limit_max, seed_max, unwired}
 use Rattle.refusal.proofs.LimitsLaws.{outside-not, inside}
@@ -52,7 +51,7 @@ module _ (tags : List ℕ) (groups limit : ℕ) where
       least_seed-none own limit (none-of-is_some (least_seed own limit) (not-true (is_some (least_seed own limit)) e))
 
   -- The lowest group without a seed, by the first index that passes the test.
-  lowest-of-first : (g : ℕ) → first (seedless groups tags limit) groups ≡ some g → LowestWithout groups tags limit g
+  lowest-of-first : (g : ℕ) → first (seedless groups tags limit) groups ≡ Some g → LowestWithout groups tags limit g
   unfolding choices_under
   lowest-of-first g e =
       let at = first_some (seedless groups tags limit) groups e in
@@ -69,7 +68,7 @@ module _ (tags : List ℕ) (groups limit : ℕ) where
             };
       }
 
-  first-of-lowest : (g : ℕ) → LowestWithout groups tags limit g → first (seedless groups tags limit) groups ≡ some g
+  first-of-lowest : (g : ℕ) → LowestWithout groups tags limit g → first (seedless groups tags limit) groups ≡ Some g
   first-of-lowest g low =
       first_found (seedless groups tags limit) groups g low.group (here (seedless groups tags limit g) refl)
       (λ h lt. there h (low.lower h lt) (seedless groups tags limit h) refl)
@@ -85,12 +84,12 @@ module _ (tags : List ℕ) (groups limit : ℕ) where
       there h has true e = absurd (unseeded h e has.seed has.below has.choices has.fills)
       there h has false e = e
 
-  none-of-never : ((g : ℕ) → LowestWithout groups tags limit g → ⊥) → first (seedless groups tags limit) groups ≡ none
+  none-of-never : ((g : ℕ) → LowestWithout groups tags limit g → ⊥) → first (seedless groups tags limit) groups ≡ None
   none-of-never never = go (first (seedless groups tags limit) groups) refl
     where
-      go : (o : Option ℕ) → first (seedless groups tags limit) groups ≡ o → first (seedless groups tags limit) groups ≡ none
-      go none e = e
-      go (some g) e = absurd (never g (lowest-of-first g e))
+      go : (o : Option ℕ) → first (seedless groups tags limit) groups ≡ o → first (seedless groups tags limit) groups ≡ None
+      go None e = e
+      go (Some g) e = absurd (never g (lowest-of-first g e))
 
   abbrev earlier : List Check
   earlier = earlier_checks tags groups limit
@@ -157,8 +156,8 @@ module _ (tags : List ℕ) (groups limit : ℕ) where
 
   -- What the plan and an answer owe, where the answer has 7 exactly as planning has, and comes only behind planning's.
   seed-condition3 : (answer : Outcome ℕ) → ((accepted : ℕ) → answer ≡ answered accepted → planning_of tags groups limit ≡ answered groups)
-      → ((g : ℕ) → answer ≡ refused 7 g → first (seedless groups tags limit) groups ≡ some g)
-      → (Pass earlier → (g : ℕ) → first (seedless groups tags limit) groups ≡ some g → answer ≡ refused 7 g)
+      → ((g : ℕ) → answer ≡ refused 7 g → first (seedless groups tags limit) groups ≡ Some g)
+      → (Pass earlier → (g : ℕ) → first (seedless groups tags limit) groups ≡ Some g → answer ≡ refused 7 g)
       → SeedCondition3 tags groups limit answer (plan_after tags groups limit)
   seed-condition3 answer behind seven due = record {
     serves = λ accepted e. yielded-serves (behind accepted e);

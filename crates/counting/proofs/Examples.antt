@@ -1,6 +1,5 @@
 -- The order of the refusals of counting parts, each where the next one is due too, and small groups, by computation. Assumes nothing.
 use Rattle.std.specs.Prelude.{◌≡◌, refl, true, false, List, [], ◌∷◌, ℕ, suc, replicate}
-use Rattle.std.proofs.Math.Option.{or_else}
 use Rattle.refusal.specs.Limits.{group_max, seed_max}
 use Rattle.refusal.specs.Outcome.{answered, refused}
 use Rattle.lists.specs.UpTo.{up_to}
@@ -18,7 +17,7 @@ use Rattle.counting.specs.Counting.{counting_checks, counting_of}
 
 -- `unfolding computed` opens every definition that these compute through.
 computed : ℕ
-unfolding or_else first met_at is_some met in_order up_to product high_part hashed multiplier place_of place_by both_places candidates
+unfolding first met_at is_some met in_order up_to product high_part hashed multiplier place_of place_by both_places candidates
     not_above
     starts_unwired one how_many connected part_points part_edges more_edges lowest parts_of counting_checks counting_of
 computed = 0

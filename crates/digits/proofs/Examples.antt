@@ -1,22 +1,21 @@
 -- The definitions at their edges: by computation, and by the law of widths where the search has too many to try. Assumes nothing.
 use Rattle.std.specs.Prelude.{◌≡◌, refl, [], ◌∷◌}
 use Rattle.std.proofs.Common.{sym, arith}
-use Rattle.std.proofs.Math.Option.{or_else}
 use Rattle.lists.specs.First.{met_at, first}
 use Rattle.digits.specs.Digits.{digits_from}
 use Rattle.digits.specs.Width.{fits, width_of}
 use Rattle.digits.proofs.WidthLaws.{width-case}
 
 zero-takes-one : width_of 0 ≡ 1
-unfolding width_of first met_at fits or_else
+unfolding width_of first met_at fits
 zero-takes-one = refl
 
 nine-takes-one : width_of 9 ≡ 1
-unfolding width_of first met_at fits or_else
+unfolding width_of first met_at fits
 nine-takes-one = refl
 
 ten-takes-two : width_of 10 ≡ 2
-unfolding width_of first met_at fits or_else
+unfolding width_of first met_at fits
 ten-takes-two = refl
 
 last-of-nine : width_of 999999999 ≡ 9

@@ -1,10 +1,9 @@
 -- The width of a number, said without the search: every number has one, and no other. Assumes nothing.
-use Rattle.std.specs.Prelude.{◌≡◌, Bool, ◌&&◌, ℕ, zero, suc, ◌+◌, ◌^◌, ◌≤◌, ◌<◌, leb}
+use Rattle.std.specs.Prelude.{◌≡◌, Bool, ◌&&◌, ℕ, zero, suc, ◌+◌, ◌^◌, ◌≤◌, ◌<◌, leb, Option, None, Some, unwrap_or}
 use Rattle.std.proofs.Math.Path.{refl}
 use Rattle.std.proofs.Common.{sym, ◌∙◌, arith, pow-suc}
 use Rattle.std.proofs.Math.Bool.{true, false}
 use Rattle.std.proofs.lemmas.Bool.{false≢true}
-use Rattle.std.proofs.Math.Option.{Option, none, some, get_or}
 use Rattle.std.proofs.Math.Nat.{pow-le-pow_right}
 use Rattle.std.proofs.Math.Dec.{ltb}
 use borrow.Author.Tests.{le-leb, leb-true, ltb-true, ltb-false}
@@ -52,9 +51,9 @@ module _ (n : ℕ) where
   unfolding width_of
   width_is = go (first (fits n) (n + 2)) (first-is (fits n) (n + 2))
     where
-      go : (o : Option ℕ) → First (fits n) (n + 2) o → Width n (get_or o 0)
-      go none never = absurd (false≢true (sym (never (suc n) (omega arith)) ∙ fits-true (suc n) (omega arith) (enough n)))
-      go (some k) found = least-of-first k found.holds found.lowest
+      go : (o : Option ℕ) → First (fits n) (n + 2) o → Width n (unwrap_or o 0)
+      go None never = absurd (false≢true (sym (never (suc n) (omega arith)) ∙ fits-true (suc n) (omega arith) (enough n)))
+      go (Some k) found = least-of-first k found.holds found.lowest
 
   -- There is no other.
   pub width-only : (k : ℕ) → Width n k → k ≡ width_of n

@@ -38,10 +38,8 @@ pub fn first_column(n: u32, columns: usize) -> usize
 pub fn write_digits_from(s: &mut [u8], first: usize, n: u32)
     ensures bytes { s.new ≡ digits_from first (length s.old) n }
 {
-    let mut i = s.len();
     let mut rest = n;
-    while 0 < i {
-        i -= 1;
+    for i in (0..s.len()).rev() {
         let zero = if first <= i { b'0' } else { b' ' };
         s[i] = zero + (rest % 10) as u8;
         rest /= 10;

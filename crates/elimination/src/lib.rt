@@ -37,9 +37,7 @@ pub fn least_solution(table: &[u64; EQUATION_BITS]) -> u64
     ensures answer { LeastSolution 32 table.now result }
 {
     let mut word = CONSTANT;
-    let mut bit = CONSTANT_BIT;
-    while bit > 0 {
-        bit -= 1;
+    for bit in (0..CONSTANT_BIT).rev() {
         let pivot = table[bit];
         if pivot != 0 && parity::parity(pivot, word) == 1 {
             word = word ^ (1 << bit);

@@ -1,8 +1,7 @@
 -- The table of the equations of a group's places: what it says once the first m are in it, and the least word from it. Assumes nothing.
-use Rattle.std.specs.Prelude.{ℕ, suc, ◌+◌, ◌*◌, ◌/◌, ◌%◌, ◌^◌, ◌≤◌, ◌<◌, ◌≡◌, true, List, length, get_or, replicate}
+use Rattle.std.specs.Prelude.{ℕ, suc, ◌+◌, ◌*◌, ◌/◌, ◌%◌, ◌^◌, ◌≤◌, ◌<◌, ◌≡◌, true, List, length, get_or, replicate, None, Some}
 use Rattle.std.proofs.Common.{sym, ◌∙◌, ap, arith, pow_pos}
 use Rattle.std.proofs.Math.Bool.{not-eq-not}
-use Rattle.std.proofs.Math.Option.{none, some}
 use Rattle.std.proofs.Math.Decide.{ℕ_discrete}
 use Rattle.std.proofs.Math.Nat.{mod-lt}
 use Rattle.std.proofs.Math.Pow.{split, high}
@@ -48,7 +47,7 @@ constant-top k word lt = high 1 k lt
 
 module _ {k : ℕ} {keys : List Key} {rows : List ℕ} {m : ℕ} {table : List ℕ} (all : Rows k keys rows) (s : System k keys rows m table) where
   -- The constant alone among the first equations: no word makes the places all different.
-  pub least-none : m ≤ length keys → (get_or table k 0 ≡ 0 → ⊥) → least_of_rows k keys rows ≡ none
+  pub least-none : m ≤ length keys → (get_or table k 0 ≡ 0 → ⊥) → least_of_rows k keys rows ≡ None
   unfolding least_of_rows
   least-none le full =
       first_out (rows_fill keys rows) (2 ^ k) (λ word lt. not-eq-not.0 (λ fills.
@@ -56,7 +55,7 @@ module _ {k : ℕ} {keys : List Key} {rows : List ℕ} {m : ℕ} {table : List �
       (s.into (with_constant k word) (λ v below. solves-of-fills k word lt all fills v (omega arith)))))
 
   -- With all equations in the table, its least solution is the least word that makes them all different.
-  pub least-some : m ≡ length keys → (W : ℕ) → LeastSolution k table W → least_of_rows k keys rows ≡ some (W % 2 ^ k)
+  pub least-some : m ≡ length keys → (W : ℕ) → LeastSolution k table W → least_of_rows k keys rows ≡ Some (W % 2 ^ k)
   unfolding least_of_rows with_constant
   least-some whole W d =
       first_found (rows_fill keys rows) (2 ^ k) (W % 2 ^ k) below

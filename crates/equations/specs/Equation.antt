@@ -1,7 +1,6 @@
 -- The choices that a word makes for keys with rows, the least word that makes their places all different, and for each place the equation
 -- that says that an odd number of keys take it. All of it is over words of k bits. Assumes nothing.
-use Rattle.std.specs.Prelude.{ℕ, ◌+◌, ◌*◌, ◌^◌, Bool, cond, List, [], ◌∷◌, map, eqb}
-use Rattle.std.proofs.Math.Option.{Option}
+use Rattle.std.specs.Prelude.{ℕ, ◌+◌, ◌*◌, ◌^◌, Bool, cond, List, [], ◌∷◌, map, eqb, Option}
 use Rattle.std.specs.Int.Bits.{bit_xor}
 use Rattle.lists.specs.First.{first}
 use Rattle.lists.specs.Occurs.{distinct}

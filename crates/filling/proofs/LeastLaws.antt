@@ -1,8 +1,8 @@
 -- What `feasible` says, without the search: something fills. The least sequence shows it, and where there is none nothing fills.
 -- Callers use these laws, never the recursion. Assumes nothing.
-use Rattle.std.specs.Prelude.{ℕ, ◌≡◌, Bool, true, false, List, [], ◌∷◌}
+use Rattle.std.specs.Prelude.{ℕ, ◌≡◌, Bool, true, false, List, [], ◌∷◌, None, Some}
 use Rattle.std.proofs.Math.Bool.{not-eq-not}
-use Rattle.std.proofs.Math.Option.{none, some, or_else}
+use Rattle.std.specs.Option.{option_or}
 use Rattle.lists.proofs.FirstLaws.{some-of-is_some, none-of-is_some}
 use Rattle.filling.specs.Filling.{Key, place_by, Fills}
 use Rattle.filling.specs.Order.{LowestDecides}
@@ -10,12 +10,12 @@ use Rattle.filling.specs.Least.{least_from, least, feasible}
 use Rattle.filling.proofs.SearchLaws.{FillsOver, FirstOf, Better, first-empty, first_key, first-fills}
 
 -- One that begins with choice 0 comes before those that begin with choice 1.
-or_else-better : Better LowestDecides or_else
-unfolding LowestDecides or_else
-or_else-better P nil (some cs) o₁ h₀ h₁ =
+or_else-better : Better LowestDecides option_or
+unfolding LowestDecides
+or_else-better P nil (Some cs) o₁ h₀ h₁ =
     (h₀.0, elim [ [] ↦ λ p. absurd (nil p) | false ∷ ds ↦ λ p. h₀.1 ds p | true ∷ ds ↦ λ p. tt ])
-or_else-better P nil none none h₀ h₁ = elim [ [] ↦ λ p. nil p | false ∷ ds ↦ λ p. h₀ ds p | true ∷ ds ↦ λ p. h₁ ds p ]
-or_else-better P nil none (some cs) h₀ h₁ =
+or_else-better P nil None None h₀ h₁ = elim [ [] ↦ λ p. nil p | false ∷ ds ↦ λ p. h₀ ds p | true ∷ ds ↦ λ p. h₁ ds p ]
+or_else-better P nil None (Some cs) h₀ h₁ =
     (h₁.0, elim [ [] ↦ λ p. absurd (nil p) | false ∷ ds ↦ λ p. absurd (h₀ ds p) | true ∷ ds ↦ λ p. h₁.1 ds p ])
 
 -- The search over the places used so far.
@@ -23,7 +23,7 @@ least_from-is : (used : List ℕ) (keys : List Key) → FirstOf LowestDecides (F
 unfolding least_from LowestDecides
 least_from-is used [] = first-empty LowestDecides tt used
 least_from-is used (key ∷ keys) =
-    first_key LowestDecides or_else or_else-better used key keys (λ c. least_from (place_by c key ∷ used) keys)
+    first_key LowestDecides option_or or_else-better used key keys (λ c. least_from (place_by c key ∷ used) keys)
     (λ c. least_from-is (place_by c key ∷ used) keys)
 
 -- `least` is the least sequence that fills, or none does.
@@ -32,11 +32,11 @@ unfolding least
 least-is keys = first-fills LowestDecides keys (least_from [] keys) (least_from-is [] keys)
 
 -- The least sequence fills.
-least-fills : (keys : List Key) {cs : List Bool} → least keys ≡ some cs → Fills keys cs
+least-fills : (keys : List Key) {cs : List Bool} → least keys ≡ Some cs → Fills keys cs
 least-fills keys e = (rw e at (least-is keys)).0
 
 -- Where there is no least sequence, nothing fills.
-least-none : (keys : List Key) → least keys ≡ none → (cs : List Bool) → Fills keys cs → ⊥
+least-none : (keys : List Key) → least keys ≡ None → (cs : List Bool) → Fills keys cs → ⊥
 least-none keys e = rw e at (least-is keys)
 
 -- Feasible keys have a sequence that fills.

@@ -1,9 +1,8 @@
 -- The lightest sequence is the one taken: where the weights of the keys and the order of choices meet. Assumes nothing.
-use Rattle.std.specs.Prelude.{ℕ, suc, ◌+◌, ◌≤◌, ◌<◌, ◌≡◌, refl, Bool, true, false, List, length}
+use Rattle.std.specs.Prelude.{ℕ, suc, ◌+◌, ◌≤◌, ◌<◌, ◌≡◌, refl, Bool, true, false, List, length, Some}
 use Rattle.std.proofs.Math.Path.{sym, ap}
 use Rattle.std.proofs.Common.{◌∙◌, arith}
 use Rattle.std.proofs.Math.Bool.{not-eq-not}
-use Rattle.std.proofs.Math.Option.{some}
 use Rattle.std.proofs.Math.Decide.{ℕ_discrete, dec_lt}
 use Rattle.lists.specs.UpTo.{up_to}
 use Rattle.lists.proofs.UpToLaws.{up_to-length, up_to-at}
@@ -20,7 +19,7 @@ use Rattle.filling.proofs.InsertionLaws.{toggle, toggle-toggled}
 -- Among the sequences that fill at most 32 keys, the lightest is taken.
 pub lightest-fills : (keys : List Key) (cs : List Bool) → length keys ≤ 32 → Fills keys cs
     → ((ds : List Bool) → Fills keys ds
-    → total key_weight (by_index cs) (length keys) ≤ total key_weight (by_index ds) (length keys)) → sequence_taken keys ≡ some cs
+    → total key_weight (by_index cs) (length keys) ≤ total key_weight (by_index ds) (length keys)) → sequence_taken keys ≡ Some cs
 lightest-fills keys cs few fills lightest =
     sequence-only keys cs fills (λ ds f.
     weight-not_after cs ds (fills.whole ∙ sym f.whole) (omega (arith, fills.whole))
@@ -28,7 +27,7 @@ lightest-fills keys cs few fills lightest =
 
 -- So the lightest sequence that insertion gives is the one taken.
 pub lightest-taken : (keys : List Key) (cs : List Bool) → length cs ≡ length keys → length keys ≤ 32
-    → Lightest (key_place keys) key_weight (length keys) (by_index cs) → sequence_taken keys ≡ some cs
+    → Lightest (key_place keys) key_weight (length keys) (by_index cs) → sequence_taken keys ≡ Some cs
 lightest-taken keys cs l few light =
     lightest-fills keys cs few (apart-fills keys cs l light.separate)
     (λ ds f. light.lightest (by_index ds) (fills-apart keys ds f))
@@ -40,7 +39,7 @@ separate-fills keys f apart =
     (separate-same (λ i lt. ap (key_place keys i) (sym (up_to-at (length keys) f false i lt))) apart)
 
 -- The sequence taken is the lightest: what separates the keys does not come before it, so it is not lighter.
-pub taken-lightest : (keys : List Key) {cs : List Bool} → length keys ≤ 32 → sequence_taken keys ≡ some cs
+pub taken-lightest : (keys : List Key) {cs : List Bool} → length keys ≤ 32 → sequence_taken keys ≡ Some cs
     → Lightest (key_place keys) key_weight (length keys) (by_index cs)
 taken-lightest keys {cs} few e = record {
   separate = fills-apart keys cs fills;
@@ -123,7 +122,7 @@ second-place-lightest place weight k before c light same last own o below had fa
     go f all false e = rw (last, e) (omega (arith, level, first-place-heavier place k o below had f all e weight before light))
 
 -- A key with equal places takes its first: with its choice toggled the keys have the same places, and the choices weigh less.
-pub equal-places-first : (keys : List Key) {cs : List Bool} → length keys ≤ 32 → sequence_taken keys ≡ some cs
+pub equal-places-first : (keys : List Key) {cs : List Bool} → length keys ≤ 32 → sequence_taken keys ≡ Some cs
     → (i : ℕ) → i < length keys → key_place keys i false ≡ key_place keys i true → by_index cs i ≡ false
 unfolding choice_weight key_weight
 equal-places-first keys {cs} few e i lt same = not-eq-not.0 second

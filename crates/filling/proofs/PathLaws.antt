@@ -2,7 +2,7 @@
 -- only take its own, by choice 1, so the word of the sequence taken has all bits but the lowest. Assumes nothing.
 use Rattle.std.specs.Prelude.{ℕ, zero, suc, ◌+◌, ◌^◌, ◌≤◌, ◌≡◌, refl, Bool, true, false, not, ◌&&◌, List, [], ◌∷◌, length, replicate}
 use Rattle.std.proofs.Common.{◌∙◌, arith, le-ltb}
-use Rattle.std.proofs.Math.Option.{some, map}
+use Rattle.std.specs.Prelude.{Some, option_map}
 use Rattle.std.proofs.Math.Nat.{two-pow-succ}
 use Rattle.std.proofs.lemmas.Bool.{not-true}
 use Rattle.lists.proofs.BoolLaws.{both-of-and}
@@ -29,13 +29,13 @@ fresh used (place ∷ rest) = not (occurs place used) && fresh (place ∷ used) 
 
 -- A key whose first place is used takes its second.
 second-forced : (used : List ℕ) (place next : ℕ) (keys : List Key) → occurs place used ≡ true → occurs next used ≡ false
-    → taken_from used ((place, next) ∷ keys) ≡ map (λ choices. true ∷ choices) (taken_from (next ∷ used) keys)
+    → taken_from used ((place, next) ∷ keys) ≡ option_map (λ choices. true ∷ choices) (taken_from (next ∷ used) keys)
 unfolding taken_from beginning place_by fewer_ones
 second-forced used place next keys taken free = rw (taken, free)
 
 -- Then so does every key behind it.
 path-on : (used : List ℕ) (place : ℕ) (rest : List ℕ) → occurs place used ≡ true → fresh used rest ≡ true
-    → taken_from used (path_from place rest) ≡ some (replicate (length rest) true)
+    → taken_from used (path_from place rest) ≡ Some (replicate (length rest) true)
 unfolding taken_from
 path-on used place [] taken free = refl
 path-on used place (next ∷ rest) taken free =
@@ -44,7 +44,7 @@ path-on used place (next ∷ rest) taken free =
     ∙ rw (path-on (next ∷ used) next rest (occurs-here next used) later)
 
 -- Of two sequences that differ in the first choice alone, the one with choice 0 has fewer ones.
-first-fewer : (cs : List Bool) → fewer_ones (some (false ∷ cs)) (some (true ∷ cs)) ≡ some (false ∷ cs)
+first-fewer : (cs : List Bool) → fewer_ones (Some (false ∷ cs)) (Some (true ∷ cs)) ≡ Some (false ∷ cs)
 unfolding fewer_ones ones choice_number
 first-fewer cs = rw (le-ltb (ones (true ∷ cs)) (ones (false ∷ cs)) (more cs))
   where
@@ -52,7 +52,7 @@ first-fewer cs = rw (le-ltb (ones (true ∷ cs)) (ones (false ∷ cs)) (more cs)
     more cs = omega arith
 
 pub path-taken : (place : ℕ) (rest : List ℕ) → fresh (place ∷ []) rest ≡ true
-    → sequence_taken (path place rest) ≡ some (false ∷ replicate (length rest) true)
+    → sequence_taken (path place rest) ≡ Some (false ∷ replicate (length rest) true)
 unfolding sequence_taken taken_from beginning place_by occurs
 path-taken place rest free =
     rw (path-on (place ∷ []) place rest (occurs-here place []) free) (first-fewer (replicate (length rest) true))

@@ -1,9 +1,8 @@
 -- What a search for the first sequence that fills comes to, key by key, whatever the order. Assumes nothing.
-use Rattle.std.specs.Prelude.{ℕ, ◌≡◌, refl, ◌⊎◌, Bool, cond, length}
+use Rattle.std.specs.Prelude.{ℕ, ◌≡◌, refl, ◌⊎◌, Bool, cond, length, Option, None, Some, option_map}
 use Rattle.std.proofs.Common.{inl, inr, arith}
 use Rattle.std.proofs.Math.Bool.{true, false, not-eq-not}
 use mathlib.Core.List.{List, [], ◌∷◌}
-use Rattle.std.proofs.Math.Option.{Option, none, some, map}
 use Rattle.lists.specs.Occurs.{occurs, distinct}
 use Rattle.lists.proofs.OccursLaws.{occurs-here, occurs-there, occurs-cases, occurs-not, absent-cons, absent-tail, distinct_head}
 use Rattle.lists.proofs.OccursLaws.{distinct_tail, distinct_cons}
@@ -55,23 +54,23 @@ pub record FillsOver (used : List ℕ) (keys : List Key) (choices : List Bool) :
 
 -- An option is the first sequence in an order with a property, or there is none with it.
 abbrev pub FirstOf : (List Bool → List Bool → Type 0) → (List Bool → Type 0) → Option (List Bool) → Type 0
-FirstOf Order P none = (cs : List Bool) → P cs → ⊥
-FirstOf Order P (some cs) = P cs × ((ds : List Bool) → P ds → Order cs ds)
+FirstOf Order P None = (cs : List Bool) → P cs → ⊥
+FirstOf Order P (Some cs) = P cs × ((ds : List Bool) → P ds → Order cs ds)
 
 -- Of the first sequence that begins with choice 0 and the first that begins with choice 1, `better` gives the first of all.
 abbrev pub Better : (List Bool → List Bool → Type 0) → (Option (List Bool) → Option (List Bool) → Option (List Bool)) → Type 1
 Better Order better =
     (P : List Bool → Type 0) → (P [] → ⊥) → (o₀ o₁ : Option (List Bool))
     → FirstOf Order (λ cs. P (false ∷ cs)) o₀ → FirstOf Order (λ cs. P (true ∷ cs)) o₁
-    → FirstOf Order P (better (map (λ cs. false ∷ cs) o₀) (map (λ cs. true ∷ cs) o₁))
+    → FirstOf Order P (better (option_map (λ cs. false ∷ cs) o₀) (option_map (λ cs. true ∷ cs) o₁))
 
 -- `beginning` keeps the choice at the front and drops the rest where its place is used.
 beginning-map : (c : Bool) (key : Key) (used : List ℕ) (o : Option (List Bool))
-    → beginning c key used o ≡ map (λ cs. c ∷ cs) (cond (occurs (place_by c key) used) none o)
+    → beginning c key used o ≡ option_map (λ cs. c ∷ cs) (cond (occurs (place_by c key) used) None o)
 unfolding beginning
 beginning-map c key used o = go (occurs (place_by c key) used)
   where
-    go : (b : Bool) → cond b none (map (λ cs. c ∷ cs) o) ≡ map (λ cs. c ∷ cs) (cond b none o)
+    go : (b : Bool) → cond b None (option_map (λ cs. c ∷ cs) o) ≡ option_map (λ cs. c ∷ cs) (cond b None o)
     go true = refl
     go false = refl
 
@@ -86,7 +85,7 @@ fills-of-over keys cs f = record { whole = f.whole; apart = fresh-distinct [] (c
 
 module _ (Order : List Bool → List Bool → Type 0) where
   -- No key: the empty sequence.
-  pub first-empty : Order [] [] → (used : List ℕ) → FirstOf Order (FillsOver used []) (some [])
+  pub first-empty : Order [] [] → (used : List ℕ) → FirstOf Order (FillsOver used []) (Some [])
   unfolding Fresh chosen
   first-empty same used =
       (record { whole = refl; off = tt }, elim [ [] ↦ λ f. same | d ∷ ds ↦ λ f. absurd (omega (arith, f.whole)) ])
@@ -94,11 +93,11 @@ module _ (Order : List Bool → List Bool → Type 0) where
   -- Those that begin with a choice: none where its place is used, otherwise those of the rest with that place used too.
   first-beginning : (c : Bool) (key : Key) (used : List ℕ) (keys : List Key) (o : Option (List Bool)) (b : Bool)
       → occurs (place_by c key) used ≡ b → FirstOf Order (FillsOver (place_by c key ∷ used) keys) o
-      → FirstOf Order (λ cs. FillsOver used (key ∷ keys) (c ∷ cs)) (cond b none o)
+      → FirstOf Order (λ cs. FillsOver used (key ∷ keys) (c ∷ cs)) (cond b None o)
   unfolding Fresh chosen
   first-beginning c key used keys o true e h = λ cs f. occurs-not (place_by c key) used e f.off.0
-  first-beginning c key used keys none false e h = λ cs f. h cs (record { whole = omega arith; off = f.off.1 })
-  first-beginning c key used keys (some cs) false e h =
+  first-beginning c key used keys None false e h = λ cs f. h cs (record { whole = omega arith; off = f.off.1 })
+  first-beginning c key used keys (Some cs) false e h =
       (record { whole = omega arith; off = (e, h.0.off) }, λ ds f. h.1 ds (record { whole = omega arith; off = f.off.1 }))
 
   -- One key more.
@@ -110,7 +109,7 @@ module _ (Order : List Bool → List Bool → Type 0) where
       simp beginning-map (is-better (FillsOver used (key ∷ keys)) nil (rest false) (rest true) (is false) (is true))
     where
       rest : Bool → Option (List Bool)
-      rest c = cond (occurs (place_by c key) used) none (o c)
+      rest c = cond (occurs (place_by c key) used) None (o c)
 
       is : (c : Bool) → FirstOf Order (λ cs. FillsOver used (key ∷ keys) (c ∷ cs)) (rest c)
       is c = first-beginning c key used keys (o c) (occurs (place_by c key) used) refl (h c)
@@ -120,5 +119,5 @@ module _ (Order : List Bool → List Bool → Type 0) where
 
   -- With no place used yet, what fills over the places used fills.
   pub first-fills : (keys : List Key) (o : Option (List Bool)) → FirstOf Order (FillsOver [] keys) o → FirstOf Order (Fills keys) o
-  first-fills keys none h = λ cs f. h cs (over-of-fills keys cs f)
-  first-fills keys (some cs) h = (fills-of-over keys cs h.0, λ ds f. h.1 ds (over-of-fills keys ds f))
+  first-fills keys None h = λ cs f. h cs (over-of-fills keys cs f)
+  first-fills keys (Some cs) h = (fills-of-over keys cs h.0, λ ds f. h.1 ds (over-of-fills keys ds f))

@@ -1,8 +1,7 @@
 -- What the sequence taken is, said without its search: it fills, nothing that fills comes before it, it is unique, and it exists
 -- exactly when something fills. Callers use these laws, never the search. Assumes nothing.
-use Rattle.std.specs.Prelude.{ℕ, ◌≤◌, ◌<◌, ◌≡◌, refl, Bool, true, false, cond, List, [], ◌∷◌, ltb}
+use Rattle.std.specs.Prelude.{ℕ, ◌≤◌, ◌<◌, ◌≡◌, refl, Bool, true, false, cond, List, [], ◌∷◌, ltb, Option, None, Some}
 use Rattle.std.proofs.Common.{sym, inl, inr, arith, ltb-true, ltb-false}
-use Rattle.std.proofs.Math.Option.{Option, none, some}
 use Rattle.std.proofs.Math.Decide.{dec_lt}
 use Rattle.lists.specs.First.{is_some}
 use Rattle.filling.specs.Filling.{Key, place_by, Fills}
@@ -61,8 +60,8 @@ not_after-first cs ds le = go (dec_lt (ones (false ∷ cs)) (ones (true ∷ ds))
 -- Of the first that begins with choice 0 and the first that begins with choice 1, the one with fewer ones is the first of all.
 fewer_ones-better : Better NotAfter fewer_ones
 unfolding fewer_ones NotAfter ones
-fewer_ones-better P nil none none h₀ h₁ = elim [ [] ↦ λ p. nil p | false ∷ ds ↦ λ p. h₀ ds p | true ∷ ds ↦ λ p. h₁ ds p ]
-fewer_ones-better P nil none (some es) h₀ h₁ = (
+fewer_ones-better P nil None None h₀ h₁ = elim [ [] ↦ λ p. nil p | false ∷ ds ↦ λ p. h₀ ds p | true ∷ ds ↦ λ p. h₁ ds p ]
+fewer_ones-better P nil None (Some es) h₀ h₁ = (
   h₁.0,
   elim [
     | [] ↦ λ p. absurd (nil p)
@@ -70,7 +69,7 @@ fewer_ones-better P nil none (some es) h₀ h₁ = (
     | true ∷ ds ↦ λ p. not_after-cons true es ds (h₁.1 ds p)
   ],
 )
-fewer_ones-better P nil (some cs) none h₀ h₁ = (
+fewer_ones-better P nil (Some cs) None h₀ h₁ = (
   h₀.0,
   elim [
     | [] ↦ λ p. absurd (nil p)
@@ -78,10 +77,10 @@ fewer_ones-better P nil (some cs) none h₀ h₁ = (
     | true ∷ ds ↦ λ p. absurd (h₁ ds p)
   ],
 )
-fewer_ones-better P nil (some cs) (some es) h₀ h₁ = go _ refl
+fewer_ones-better P nil (Some cs) (Some es) h₀ h₁ = go _ refl
   where
     go : (b : Bool) → ltb (ones (true ∷ es)) (ones (false ∷ cs)) ≡ b
-        → FirstOf NotAfter P (cond b (some (true ∷ es)) (some (false ∷ cs)))
+        → FirstOf NotAfter P (cond b (Some (true ∷ es)) (Some (false ∷ cs)))
     go true e = (
       h₁.0,
       elim [
@@ -114,25 +113,25 @@ unfolding sequence_taken
 sequence-is keys = first-fills NotAfter keys (taken_from [] keys) (taken_from-is [] keys)
 
 -- "it fills"
-pub sequence-fills : (keys : List Key) {cs : List Bool} → sequence_taken keys ≡ some cs → Fills keys cs
+pub sequence-fills : (keys : List Key) {cs : List Bool} → sequence_taken keys ≡ Some cs → Fills keys cs
 sequence-fills keys e = (rw e at (sequence-is keys)).0
 
 -- "nothing that fills comes before it"
-pub sequence-first : (keys : List Key) {cs : List Bool} → sequence_taken keys ≡ some cs → (ds : List Bool) → Fills keys ds
+pub sequence-first : (keys : List Key) {cs : List Bool} → sequence_taken keys ≡ Some cs → (ds : List Bool) → Fills keys ds
     → NotAfter cs ds
 sequence-first keys e = (rw e at (sequence-is keys)).1
 
 -- "it is unique": what fills, with nothing that fills before it, is the sequence taken.
 pub sequence-only : (keys : List Key) (cs : List Bool) → Fills keys cs
-    → ((ds : List Bool) → Fills keys ds → NotAfter cs ds) → sequence_taken keys ≡ some cs
+    → ((ds : List Bool) → Fills keys ds → NotAfter cs ds) → sequence_taken keys ≡ Some cs
 sequence-only keys cs f h = go (sequence_taken keys) (sequence-is keys)
   where
-    go : (o : Option (List Bool)) → FirstOf NotAfter (Fills keys) o → o ≡ some cs
-    go none n = absurd (n cs f)
-    go (some ds) l = rw (not_after-antisym ds cs (l.1 cs f) (h ds l.0))
+    go : (o : Option (List Bool)) → FirstOf NotAfter (Fills keys) o → o ≡ Some cs
+    go None n = absurd (n cs f)
+    go (Some ds) l = rw (not_after-antisym ds cs (l.1 cs f) (h ds l.0))
 
 -- "it exists exactly when something fills"
-pub sequence-none : (keys : List Key) → sequence_taken keys ≡ none → (cs : List Bool) → Fills keys cs → ⊥
+pub sequence-none : (keys : List Key) → sequence_taken keys ≡ None → (cs : List Bool) → Fills keys cs → ⊥
 sequence-none keys e = rw e at (sequence-is keys)
 
 pub sequence-exists : (keys : List Key) → is_some (sequence_taken keys) ≡ feasible keys
@@ -140,10 +139,10 @@ unfolding is_some
 sequence-exists keys = go (sequence_taken keys) (sequence-is keys)
   where
     go : (o : Option (List Bool)) → FirstOf NotAfter (Fills keys) o → is_some o ≡ feasible keys
-    go none n = sym (none-infeasible keys n)
-    go (some cs) l = sym (fills-feasible keys cs l.0)
+    go None n = sym (none-infeasible keys n)
+    go (Some cs) l = sym (fills-feasible keys cs l.0)
 
 -- Of no keys the empty sequence is taken.
-pub sequence-empty : sequence_taken [] ≡ some []
+pub sequence-empty : sequence_taken [] ≡ Some []
 unfolding sequence_taken taken_from
 sequence-empty = refl

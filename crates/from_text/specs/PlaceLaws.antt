@@ -1,7 +1,6 @@
 -- The place of a refusal of planning, writing and building from a list text is below the number of lines that a text may have, and
 -- reading's refusals have a number. Assumes nothing.
-use Rattle.std.specs.Prelude.{◌≡◌, refl, List, [], ◌∷◌, ℕ, ◌≤◌, ltb, length}
-use Rattle.std.proofs.Math.Option.{none}
+use Rattle.std.specs.Prelude.{◌≡◌, refl, List, [], ◌∷◌, ℕ, ◌≤◌, ltb, length, None}
 use Rattle.std.proofs.Common.{arith, ltb-false}
 use Rattle.refusal.specs.Limits.{text_max, tags_max, groups_max, outside}
 use Rattle.refusal.proofs.LimitsLaws.{inside}
@@ -33,10 +32,10 @@ reading-place text short =
     (λ _. tt)
 
 -- and one of an operation an index of a list that is not too long, or a group. What the checks before it say:
-pub few : (tags : List ℕ) → met (ltb tags_max (length tags)) ≡ none → length tags ≤ text_lines
+pub few : (tags : List ℕ) → met (ltb tags_max (length tags)) ≡ None → length tags ≤ text_lines
 few tags e = omega (arith, ltb-false tags_max (length tags) (false-of-met _ e))
 
-pub legal : (groups : ℕ) → met (outside 1 groups_max groups) ≡ none → groups ≤ text_lines
+pub legal : (groups : ℕ) → met (outside 1 groups_max groups) ≡ None → groups ≤ text_lines
 legal groups e = omega (arith, (inside 1 groups_max groups (false-of-met _ e)).1)
 
 planning-place : (tags : List ℕ) (groups limit : ℕ) → PlaceBelow text_lines (planning_of tags groups limit)

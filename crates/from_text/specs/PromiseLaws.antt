@@ -9,7 +9,8 @@ use Rattle.refusal.proofs.OutcomeLaws.{answered-of-by, followed-answered, follow
 use Rattle.lists.specs.First.{met_at}
 use Rattle.refusal.specs.Checks.{met, in_order}
 use Rattle.list.specs.Reading.{Listed, reading_of, cells_after}
-use Rattle.list.specs.Answer.{ListHead, head_of}
+use Rattle.list.specs.Answer.{head_of}
+use Rattle.list.specs.declared.ListHead.{ListHead}
 use Rattle.numbering.specs.Plan.{no_plan}
 use Rattle.numbering.specs.FromText.{list_from_text, planning_from_text, plan_from_text, writing_from_text, written_from_text}
 use Rattle.numbering.specs.FromText.{building_from_text, buffer_from_text}

@@ -1,7 +1,6 @@
 -- Small graphs, by computation: walks both ways, a key with equal places, a point without edges, a part with more edges than points, and
 -- the sequences that fill. Assumes nothing.
 use Rattle.std.specs.Prelude.{◌≡◌, refl, true, false, [], ◌∷◌, ℕ, length}
-use Rattle.std.proofs.Math.Option.{or_else}
 use Rattle.lists.specs.UpTo.{up_to}
 use Rattle.lists.specs.First.{first, met_at, is_some}
 use Rattle.lists.specs.Occurs.{occurs, distinct}
@@ -13,7 +12,7 @@ use Rattle.graph.specs.Sequences.{all_sequences, fills}
 
 -- `unfolding computed` opens every definition that these compute through.
 computed : ℕ
-unfolding or_else up_to first met_at is_some occurs distinct place_by chosen one how_many connected part_points part_edges
+unfolding up_to first met_at is_some occurs distinct place_by chosen one how_many connected part_points part_edges
     more_edges lowest parts_of
     all_sequences fills
 computed = 0

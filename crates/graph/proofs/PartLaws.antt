@@ -1,11 +1,10 @@
 -- The parts by walks and the parts counted are the same: a part's points and edges, and how many parts there are, whichever point
 -- stands for each. Assumes nothing.
-use Rattle.std.specs.Prelude.{ℕ, suc, ◌≤◌, ◌<◌, ◌≡◌, ◌↔◌, Bool, ◌&&◌, List, map, length, get_or}
+use Rattle.std.specs.Prelude.{ℕ, suc, ◌≤◌, ◌<◌, ◌≡◌, ◌↔◌, Bool, ◌&&◌, List, map, length, get_or, Option, None, Some}
 use Rattle.std.proofs.Math.Path.{refl, sym}
 use Rattle.std.proofs.Common.{◌∙◌, true≢false}
 use Rattle.std.proofs.Math.Bool.{true, false, and_self}
 use Rattle.std.proofs.lemmas.Bool.{false≢true}
-use Rattle.std.proofs.Math.Option.{Option, none, some}
 use Rattle.std.proofs.Math.Decide.{ℕ_discrete, dec_lt}
 use native.Mathlib.Omega.{arith}
 use Rattle.std.proofs.Math.Dec.{eqb}
@@ -251,8 +250,8 @@ module _ (n : ℕ) (keys : List Key) where
 
       go : (v : ℕ) → v < n → (o : Option ℕ) → first (connected keys v) (suc v) ≡ o
           → (u : ℕ) × (u < n) × (lowest keys u ≡ true) × (label keys u ≡ label keys v)
-      go v lt none e = absurd (true≢false (sym (itself v) ∙ first-none (connected keys v) (suc v) e v (omega arith)))
-      go v lt (some u) e =
+      go v lt None e = absurd (true≢false (sym (itself v) ∙ first-none (connected keys v) (suc v) e v (omega arith)))
+      go v lt (Some u) e =
           let at = first_some (connected keys v) (suc v) e in
           let same : label keys u ≡ label keys v = sym (eqb-true _ _ (sym (connected-label keys v u) ∙ at.holds)) in
           (u, omega (arith, at.below), low u same at.lowest, same)

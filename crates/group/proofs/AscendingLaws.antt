@@ -1,6 +1,5 @@
 -- When a list passes check 6, and what follows for its tags. Assumes nothing.
-use Rattle.std.specs.Prelude.{◌≡◌, refl, Bool, true, false, List, ℕ, zero, suc, ◌-◌, ◌≤◌, ◌<◌, ltb, length, get_or}
-use Rattle.std.proofs.Math.Option.{none}
+use Rattle.std.specs.Prelude.{◌≡◌, refl, Bool, true, false, List, ℕ, zero, suc, ◌-◌, ◌≤◌, ◌<◌, ltb, length, get_or, None}
 use Rattle.std.proofs.Common.{arith, leb-false, le-leb, ltb-true, ltb-false}
 use Rattle.std.proofs.lemmas.Bool.{lt-leb}
 use Rattle.lists.proofs.FirstLaws.{first-none, first_out}
@@ -9,12 +8,12 @@ use Rattle.lists.proofs.OccursLaws.{get_or-distinct}
 use Rattle.group.specs.Ascending.{not_above, ascending_check, Ascending}
 
 -- Check 6 is not met exactly where the list is strictly ascending.
-pub ascending-of-check : (tags : List ℕ) → (ascending_check tags).1 ≡ none → Ascending tags
+pub ascending-of-check : (tags : List ℕ) → (ascending_check tags).1 ≡ None → Ascending tags
 unfolding not_above
 ascending-of-check tags e i lt =
     leb-false (get_or tags (suc i) 0) (get_or tags i 0) (first-none (not_above tags) (length tags) e (suc i) lt)
 
-pub check-of-ascending : (tags : List ℕ) → Ascending tags → (ascending_check tags).1 ≡ none
+pub check-of-ascending : (tags : List ℕ) → Ascending tags → (ascending_check tags).1 ≡ None
 unfolding not_above
 check-of-ascending tags up = first_out (not_above tags) (length tags) above
   where

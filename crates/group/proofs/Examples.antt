@@ -1,7 +1,6 @@
 -- The order of placing's refusals, each where the next one is due too, and small groups in which the order of choices decides, by
 -- computation. Assumes nothing.
-use Rattle.std.specs.Prelude.{◌≡◌, refl, true, false, List, [], ◌∷◌, ℕ, suc, replicate}
-use Rattle.std.proofs.Math.Option.{some, or_else}
+use Rattle.std.specs.Prelude.{◌≡◌, refl, true, false, List, [], ◌∷◌, ℕ, suc, replicate, Some}
 use Rattle.refusal.specs.Limits.{group_max, outside}
 use Rattle.refusal.specs.Outcome.{refused}
 use Rattle.lists.specs.First.{first, met_at, is_some}
@@ -20,7 +19,7 @@ use Rattle.group.specs.Placing.{placing_checks, placing_of}
 
 -- `unfolding computed` opens every definition that these compute through.
 computed : ℕ
-unfolding or_else outside first met_at is_some met in_order product high_part hashed multiplier place_of occurs place_by
+unfolding outside first met_at is_some met in_order product high_part hashed multiplier place_of occurs place_by
     beginning least_from least feasible choice_number ones fewer_ones taken_from sequence_taken both_places candidates least_seed taken
     not_above starts_unwired placing_checks placing_of
 computed = 0
@@ -53,7 +52,7 @@ seven-last = refl
 
 -- {1, 2, 12} under seed 0: 0, 1, 1 fills too, and has one more second place.
 fewest-ones : (taken (1 ∷ 2 ∷ 12 ∷ []) 0 ≡ true ∷ false ∷ false ∷ [])
-    × (least (group_under (1 ∷ 2 ∷ 12 ∷ []) 0) ≡ some (false ∷ true ∷ true ∷ []))
+    × (least (group_under (1 ∷ 2 ∷ 12 ∷ []) 0) ≡ Some (false ∷ true ∷ true ∷ []))
 unfolding computed
 fewest-ones = (refl, refl)
 

@@ -1,8 +1,7 @@
 -- What the seed and the sequence taken are, in the words of `Fills`: callers use these laws, never the search. Assumes nothing.
-use Rattle.std.specs.Prelude.{ℕ, zero, suc, ◌<◌, ◌≡◌, refl, Bool, true, List, [], ◌∷◌, length, get_or}
+use Rattle.std.specs.Prelude.{ℕ, zero, suc, ◌<◌, ◌≡◌, refl, Bool, true, List, [], ◌∷◌, length, get_or, None, Some}
 use Rattle.std.proofs.Common.{◌∙◌, arith}
 use Rattle.std.proofs.Math.Bool.{false}
-use Rattle.std.proofs.Math.Option.{none, some}
 use Rattle.std.proofs.lemmas.List.{length-map}
 use Rattle.lists.proofs.FirstLaws.{some-of-is_some, first_some, first-none, first_found, first_out}
 use Rattle.lists.specs.Occurs.{distinct}
@@ -69,13 +68,13 @@ seed_test tags s = feasible (group_under tags s)
 
 module _ (tags : List ℕ) where
   -- The sequence taken of the candidate places, where there is one.
-  taken-of-some : (s : ℕ) {cs : List Bool} → sequence_taken (group_under tags s) ≡ some cs → taken tags s ≡ cs
+  taken-of-some : (s : ℕ) {cs : List Bool} → sequence_taken (group_under tags s) ≡ Some cs → taken tags s ≡ cs
   unfolding taken
   taken-of-some s e = rw e
 
   -- There is one where any sequence fills.
   pub taken-of-fills : (s : ℕ) (cs : List Bool) → Fills (group_under tags s) cs
-      → sequence_taken (group_under tags s) ≡ some (taken tags s)
+      → sequence_taken (group_under tags s) ≡ Some (taken tags s)
   taken-of-fills s cs f =
       let exists = sequence-exists (group_under tags s) ∙ fills-feasible (group_under tags s) cs f in
       let (ds, e) = some-of-is_some (sequence_taken (group_under tags s)) exists in
@@ -95,7 +94,7 @@ module _ (tags : List ℕ) where
   taken-unique s cs f h = taken-of-some s (sequence-only (group_under tags s) cs f h)
 
   -- The seed found is the least under which anything fills.
-  pub least_seed-some : (limit : ℕ) {s : ℕ} → least_seed tags limit ≡ some s → LeastSeed tags limit s
+  pub least_seed-some : (limit : ℕ) {s : ℕ} → least_seed tags limit ≡ Some s → LeastSeed tags limit s
   unfolding least_seed
   least_seed-some limit {s} e =
       let at = first_some (seed_test tags) limit e in
@@ -108,21 +107,21 @@ module _ (tags : List ℕ) where
       }
 
   -- Where none is found, nothing fills under any seed below the limit.
-  pub least_seed-none : (limit : ℕ) → least_seed tags limit ≡ none → (t : ℕ) → t < limit → NoneFills tags t
+  pub least_seed-none : (limit : ℕ) → least_seed tags limit ≡ None → (t : ℕ) → t < limit → NoneFills tags t
   unfolding least_seed
   least_seed-none limit e t lt =
       infeasible-none (group_under tags t) (first-none (seed_test tags) limit e t lt)
 
   -- The least seed below the limit under which anything fills is the one found.
   pub least_seed-only : (limit s : ℕ) (cs : List Bool) → s < limit → Fills (group_under tags s) cs
-      → ((t : ℕ) → t < s → NoneFills tags t) → least_seed tags limit ≡ some s
+      → ((t : ℕ) → t < s → NoneFills tags t) → least_seed tags limit ≡ Some s
   unfolding least_seed
   least_seed-only limit s cs below f passed =
       let fails : (t : ℕ) → t < s → seed_test tags t ≡ false = λ t lt. none-infeasible (group_under tags t) (passed t lt) in
       first_found (seed_test tags) limit s below (fills-feasible (group_under tags s) cs f) fails
 
   -- Where nothing fills under any seed below the limit, none is found.
-  pub least_seed-out : (limit : ℕ) → ((t : ℕ) → t < limit → NoneFills tags t) → least_seed tags limit ≡ none
+  pub least_seed-out : (limit : ℕ) → ((t : ℕ) → t < limit → NoneFills tags t) → least_seed tags limit ≡ None
   unfolding least_seed
   least_seed-out limit out =
       first_out (seed_test tags) limit (λ t lt. none-infeasible (group_under tags t) (out t lt))
@@ -133,7 +132,7 @@ unfolding candidates chosen distinct
 fills-empty s = record { whole = refl; apart = refl }
 
 -- The empty group has seed 0.
-pub least_seed-empty : (limit : ℕ) → 0 < limit → least_seed [] limit ≡ some 0
+pub least_seed-empty : (limit : ℕ) → 0 < limit → least_seed [] limit ≡ Some 0
 least_seed-empty limit below = least_seed-only [] limit 0 [] below (fills-empty 0) (λ t lt. absurd (omega arith))
 
 -- Of the empty group the empty sequence is taken, under every seed.

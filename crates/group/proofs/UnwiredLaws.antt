@@ -1,7 +1,6 @@
 -- When a list passes check 17, and that tag 0 then stands nowhere in it. Assumes nothing.
-use Rattle.std.specs.Prelude.{◌≡◌, refl, false, List, [], ◌∷◌, ℕ, zero, suc, ◌<◌, eqb, length, get_or}
+use Rattle.std.specs.Prelude.{◌≡◌, refl, false, List, [], ◌∷◌, ℕ, zero, suc, ◌<◌, eqb, length, get_or, None}
 use Rattle.std.proofs.Math.Bool.{not-eq-not}
-use Rattle.std.proofs.Math.Option.{none}
 use Rattle.std.proofs.Common.{arith, ne_eqb}
 use Rattle.std.proofs.lemmas.Bool.{eqb-false}
 use Rattle.refusal.specs.Limits.{unwired}
@@ -26,12 +25,12 @@ starts_with [] some = absurd (omega arith)
 starts_with (t ∷ tags) some = refl
 
 -- Check 17 is not met exactly where the first tag is not 0.
-pub wired-of-check : (tags : List ℕ) → (unwired_check tags).1 ≡ none → FirstWired tags
+pub wired-of-check : (tags : List ℕ) → (unwired_check tags).1 ≡ None → FirstWired tags
 unfolding starts_unwired
 wired-of-check [] e some = absurd (omega arith)
 wired-of-check (t ∷ tags) e some = let other : t ≡ 0 → ⊥ = eqb-false t unwired (false-of-met _ e) in omega (arith, other)
 
-pub check-of-wired : (tags : List ℕ) → FirstWired tags → (unwired_check tags).1 ≡ none
+pub check-of-wired : (tags : List ℕ) → FirstWired tags → (unwired_check tags).1 ≡ None
 unfolding starts_unwired
 check-of-wired [] wired = met-false refl
 check-of-wired (t ∷ tags) wired = met-false (ne_eqb t unwired (λ e. omega (arith, wired (omega arith))))

@@ -1,7 +1,5 @@
 -- A group of tags under a seed: its candidate places, its seed, and the sequence taken. Assumes nothing.
-use Rattle.std.specs.Prelude.{ℕ, Bool, List, [], map, length}
-use Rattle.std.proofs.Math.Option
-use Rattle.std.proofs.Math.Option.{Option, get_or}
+use Rattle.std.specs.Prelude.{ℕ, Bool, List, [], map, length, Option, unwrap_or, option_map}
 use Rattle.lists.specs.First.{first}
 use Rattle.hash.specs.Formula.{place_of}
 use Rattle.filling.specs.Filling.{Key}
@@ -27,8 +25,8 @@ least_seed tags limit = first (λ s. feasible (group_under tags s)) limit
 
 -- The choice sequence taken under a seed; empty where none fills.
 unfoldable pub taken : List ℕ → ℕ → List Bool
-taken tags s = get_or (sequence_taken (group_under tags s)) []
+taken tags s = unwrap_or (sequence_taken (group_under tags s)) []
 
 -- The word of a group under a seed: the choice word of the sequence taken, where any sequence fills.
 unfoldable pub word_under : List ℕ → ℕ → Option ℕ
-word_under tags s = Option.map word_of (sequence_taken (group_under tags s))
+word_under tags s = option_map word_of (sequence_taken (group_under tags s))

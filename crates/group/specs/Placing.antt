@@ -1,6 +1,5 @@
 -- The operation "placing a group". Assumes nothing.
-use Rattle.std.specs.Prelude.{ℕ, not, List, [], ◌∷◌, ltb, length}
-use Rattle.std.proofs.Math.Option.{get_or}
+use Rattle.std.specs.Prelude.{ℕ, not, List, [], ◌∷◌, ltb, length, unwrap_or}
 use Rattle.refusal.specs.Limits.{group_max}
 use Rattle.refusal.specs.Outcome.{Outcome, answered}
 use Rattle.lists.specs.First.{is_some}
@@ -30,7 +29,7 @@ placing_checks tags limit =
 -- The least seed and the word of the sequence taken under it.
 unfoldable pub placement_of : List ℕ → ℕ → Placement
 placement_of tags limit =
-    let seed = get_or (least_seed tags limit) 0 in
+    let seed = unwrap_or (least_seed tags limit) 0 in
     record { seed = seed; word = word_of (taken tags seed) }
 
 -- "Otherwise seed and choice word."

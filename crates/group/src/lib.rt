@@ -6,22 +6,17 @@ mod worked;
 ghost use Rattle.std.specs.Prelude.{◌≡◌};
 ghost use Rattle.group.specs.Ascending.{ascending_check};
 ghost use Rattle.group.specs.Unwired.{starts_unwired};
-ghost use Rattle.refusal.specs.Answer.{first_meaning};
-
-use refusal::First;
 
 // The first index whose tag is not above the one before.
-pub fn first_not_above(tags: &[u32]) -> First
-    ensures answer { first_meaning result ≡ (ascending_check tags.now).1 }
+pub fn first_not_above(tags: &[u32]) -> Option<usize>
+    ensures answer { result ≡ (ascending_check tags.now).1 }
 {
-    let mut i = 1;
-    while i < tags.len() {
+    for i in 1..tags.len() {
         if tags[i] <= tags[i - 1] {
-            return First::At(i);
+            return Some(i);
         }
-        i += 1;
     }
-    First::Nowhere
+    None
 }
 
 // Is the first tag 0, which is reserved for an unwired point? An empty list has no first tag.

@@ -1,11 +1,9 @@
 -- What the seed and the sequence taken are, of tags among any number of places, in the words of `Fills`: callers use these laws, never
 -- the search. Assumes nothing.
-use Rattle.std.specs.Prelude.{ℕ, ◌≤◌, ◌<◌, Bool, true, List, [], length, get_or}
+use Rattle.std.specs.Prelude.{ℕ, ◌≤◌, ◌<◌, Bool, true, List, [], length, get_or, Option, None, Some, option_map, unwrap_or}
 use Rattle.std.proofs.Math.Path.{◌≡◌, refl}
 use Rattle.std.proofs.Common.{◌∙◌, arith}
 use Rattle.std.proofs.Math.Bool.{false}
-use Rattle.std.proofs.Math.Option
-use Rattle.std.proofs.Math.Option.{Option, none, some, map}
 use Rattle.lists.specs.First.{is_some}
 use Rattle.lists.proofs.FirstLaws.{some-of-is_some, first_some, first-none, first_found, first_out}
 use Rattle.hash.proofs.FormulaLaws.{place-below}
@@ -43,13 +41,13 @@ seed_test n tags s = feasible (candidates n s tags)
 
 module _ (n : ℕ) (tags : List ℕ) where
   -- The sequence taken of the candidate places, where there is one.
-  taken_on-of-some : (s : ℕ) {cs : List Bool} → sequence_taken (candidates n s tags) ≡ some cs → taken_on n tags s ≡ cs
+  taken_on-of-some : (s : ℕ) {cs : List Bool} → sequence_taken (candidates n s tags) ≡ Some cs → taken_on n tags s ≡ cs
   unfolding taken_on
   taken_on-of-some s e = rw e
 
   -- There is one where any sequence fills.
   pub taken_on-of-fills : (s : ℕ) (cs : List Bool) → Fills (candidates n s tags) cs
-      → sequence_taken (candidates n s tags) ≡ some (taken_on n tags s)
+      → sequence_taken (candidates n s tags) ≡ Some (taken_on n tags s)
   taken_on-of-fills s cs f =
       let exists = sequence-exists (candidates n s tags) ∙ fills-feasible (candidates n s tags) cs f in
       let (ds, e) = some-of-is_some (sequence_taken (candidates n s tags)) exists in
@@ -69,7 +67,7 @@ module _ (n : ℕ) (tags : List ℕ) where
   taken_on-unique s cs f h = taken_on-of-some s (sequence-only (candidates n s tags) cs f h)
 
   -- The seed found is the least under which anything fills.
-  pub least_seed_on-some : (limit : ℕ) {s : ℕ} → least_seed_on n tags limit ≡ some s → LeastSeedOn n tags limit s
+  pub least_seed_on-some : (limit : ℕ) {s : ℕ} → least_seed_on n tags limit ≡ Some s → LeastSeedOn n tags limit s
   unfolding least_seed_on
   least_seed_on-some limit {s} e =
       let at = first_some (seed_test n tags) limit e in
@@ -82,45 +80,45 @@ module _ (n : ℕ) (tags : List ℕ) where
       }
 
   -- Where none is found, nothing fills under any seed below the limit.
-  pub least_seed_on-none : (limit : ℕ) → least_seed_on n tags limit ≡ none → (t : ℕ) → t < limit → NoneFillsOn n tags t
+  pub least_seed_on-none : (limit : ℕ) → least_seed_on n tags limit ≡ None → (t : ℕ) → t < limit → NoneFillsOn n tags t
   unfolding least_seed_on
   least_seed_on-none limit e t lt =
       infeasible-none (candidates n t tags) (first-none (seed_test n tags) limit e t lt)
 
   -- The least seed below the limit under which anything fills is the one found.
   pub least_seed_on-only : (limit s : ℕ) (cs : List Bool) → s < limit → Fills (candidates n s tags) cs
-      → ((t : ℕ) → t < s → NoneFillsOn n tags t) → least_seed_on n tags limit ≡ some s
+      → ((t : ℕ) → t < s → NoneFillsOn n tags t) → least_seed_on n tags limit ≡ Some s
   unfolding least_seed_on
   least_seed_on-only limit s cs below f passed =
       let fails : (t : ℕ) → t < s → seed_test n tags t ≡ false = λ t lt. none-infeasible (candidates n t tags) (passed t lt) in
       first_found (seed_test n tags) limit s below (fills-feasible (candidates n s tags) cs f) fails
 
   -- Where nothing fills under any seed below the limit, none is found.
-  pub least_seed_on-out : (limit : ℕ) → ((t : ℕ) → t < limit → NoneFillsOn n tags t) → least_seed_on n tags limit ≡ none
+  pub least_seed_on-out : (limit : ℕ) → ((t : ℕ) → t < limit → NoneFillsOn n tags t) → least_seed_on n tags limit ≡ None
   unfolding least_seed_on
   least_seed_on-out limit out =
       first_out (seed_test n tags) limit (λ t lt. none-infeasible (candidates n t tags) (out t lt))
 
   -- Where something fills, the word is that of the sequence taken.
-  pub word_on-taken : (s : ℕ) (cs : List Bool) → Fills (candidates n s tags) cs → word_on n tags s ≡ some (word_of (taken_on n tags s))
+  pub word_on-taken : (s : ℕ) (cs : List Bool) → Fills (candidates n s tags) cs → word_on n tags s ≡ Some (word_of (taken_on n tags s))
   unfolding word_on
   word_on-taken s cs f = rw (taken_on-of-fills s cs f)
 
   -- A word says that something fills, and is that of the sequence taken;
-  pub word_on-found : (s : ℕ) {word : ℕ} → word_on n tags s ≡ some word
+  pub word_on-found : (s : ℕ) {word : ℕ} → word_on n tags s ≡ Some word
       → (feasible (candidates n s tags) ≡ true) × (word ≡ word_of (taken_on n tags s))
   unfolding word_on is_some taken_on
   word_on-found s {word} e = rw (← sequence-exists (candidates n s tags)) (go (sequence_taken (candidates n s tags)) e)
     where
-      go : (o : Option (List Bool)) → map word_of o ≡ some word → (is_some o ≡ true) × (word ≡ word_of (Option.get_or o []))
-      go none e = absurd (let z : ◌≡◌ {A = ℕ} 0 1 = cc in omega arith)
-      go (some cs) e = (refl, cc)
+      go : (o : Option (List Bool)) → option_map word_of o ≡ Some word → (is_some o ≡ true) × (word ≡ word_of (unwrap_or o []))
+      go None e = absurd (let z : ◌≡◌ {A = ℕ} 0 1 = cc in omega arith)
+      go (Some cs) e = (refl, cc)
 
   -- and where there is none nothing fills.
-  pub word_on-none : (s : ℕ) → word_on n tags s ≡ none → feasible (candidates n s tags) ≡ false
+  pub word_on-none : (s : ℕ) → word_on n tags s ≡ None → feasible (candidates n s tags) ≡ false
   unfolding word_on is_some
   word_on-none s e = rw (← sequence-exists (candidates n s tags)) (go (sequence_taken (candidates n s tags)) e)
     where
-      go : (o : Option (List Bool)) → map word_of o ≡ none → is_some o ≡ false
-      go none e = refl
-      go (some cs) e = cc
+      go : (o : Option (List Bool)) → option_map word_of o ≡ None → is_some o ≡ false
+      go None e = refl
+      go (Some cs) e = cc

@@ -1,8 +1,6 @@
 -- Tags on any number of places: the least seed, the sequence taken, and the word. A group that is placed has as many places as tags.
 -- Assumes nothing.
-use Rattle.std.specs.Prelude.{ℕ, Bool, List, []}
-use Rattle.std.proofs.Math.Option
-use Rattle.std.proofs.Math.Option.{Option, get_or}
+use Rattle.std.specs.Prelude.{ℕ, Bool, List, [], Option, unwrap_or, option_map}
 use Rattle.lists.specs.First.{first}
 use Rattle.filling.specs.Least.{feasible}
 use Rattle.filling.specs.Taken.{sequence_taken}
@@ -16,8 +14,8 @@ least_seed_on n tags limit = first (λ s. feasible (candidates n s tags)) limit
 
 -- The choice sequence taken under a seed, among n places; empty where none fills.
 unfoldable pub taken_on : ℕ → List ℕ → ℕ → List Bool
-taken_on n tags s = get_or (sequence_taken (candidates n s tags)) []
+taken_on n tags s = unwrap_or (sequence_taken (candidates n s tags)) []
 
 -- The word of tags under a seed, among n places: the choice word of the sequence taken, where any sequence fills.
 unfoldable pub word_on : ℕ → List ℕ → ℕ → Option ℕ
-word_on n tags s = Option.map word_of (sequence_taken (candidates n s tags))
+word_on n tags s = option_map word_of (sequence_taken (candidates n s tags))

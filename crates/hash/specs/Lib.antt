@@ -1,4 +1,3 @@
 pub mod Formula
 pub mod OneTag
-pub mod Answer
 pub mod MultiplyShift

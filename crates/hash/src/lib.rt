@@ -10,7 +10,7 @@ ghost use Rattle.std.specs.Prelude.{◌≡◌, ◌≤◌};
 ghost use Rattle.refusal.specs.Limits.{seed_max};
 ghost use Rattle.hash.specs.Formula.{product, high_part, hashed, group_of, multiplier, place_of};
 ghost use Rattle.hash.specs.OneTag.{place_of_one_tag};
-ghost use Rattle.hash.specs.Answer.{place_outcome};
+ghost use Rattle.refusal.specs.Answer.{outcome};
 
 use refusal::{Reason, Refusal};
 
@@ -19,36 +19,20 @@ const G: u32 = 2654435761;
 
 pub const K: u32 = 2246822507;
 
-// What the operation "place of one tag" answers.
-#[derive(Drop)]
-pub enum PlaceAnswer {
-    Place(u32),
-    Refused(Refusal),
-}
-
 // The operation "place of one tag": the place of `tag` in a group of `n` tags under a seed and a choice, or 1, 2, 3.
-pub fn place_of_one_tag(n: u32, seed: u32, choice: u32, tag: u32) -> PlaceAnswer
-    ensures answer { place_outcome result ≡ place_of_one_tag n seed choice tag }
+pub fn place_of_one_tag(n: u32, seed: u32, choice: u32, tag: u32) -> Result<u32, Refusal>
+    ensures answer { outcome result ≡ place_of_one_tag n seed choice tag }
 {
     if refusal::outside(1, refusal::GROUP_MAX, n) {
-        return PlaceAnswer::Refused(Refusal {
-            reason: Reason::SizeOutOfRange,
-            place: 0,
-        });
+        return Err(Reason::SizeOutOfRange.into());
     }
     if refusal::SEED_MAX < seed {
-        return PlaceAnswer::Refused(Refusal {
-            reason: Reason::SeedOutOfRange,
-            place: 0,
-        });
+        return Err(Reason::SeedOutOfRange.into());
     }
     if 1 < choice {
-        return PlaceAnswer::Refused(Refusal {
-            reason: Reason::ChoiceOutOfRange,
-            place: 0,
-        });
+        return Err(Reason::ChoiceOutOfRange.into());
     }
-    PlaceAnswer::Place(place_of(n, seed, choice, tag))
+    Ok(place_of(n, seed, choice, tag))
 }
 
 // The group of a tag among `groups` groups.

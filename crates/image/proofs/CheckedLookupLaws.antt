@@ -1,10 +1,9 @@
 -- Condition 2, over the definitions: in an image that checking accepts, lookup finds exactly the tags that the slots hold.
 -- Assumes nothing.
-use Rattle.std.specs.Prelude.{◌≡◌, ◌⊎◌, ◌↔◌, true, cond, ◌&&◌, ◌||◌, List, ◌∷◌}
+use Rattle.std.specs.Prelude.{◌≡◌, ◌⊎◌, ◌↔◌, true, cond, ◌&&◌, ◌||◌, List, ◌∷◌, Option, None, Some, unwrap_or}
 use Rattle.std.proofs.Math.Path.{refl, sym}
 use Rattle.std.proofs.Common.{◌∙◌, ap, inl, inr}
 use Rattle.std.proofs.Math.Bool.{Bool, false, not, true≢false, or-true}
-use Rattle.std.proofs.Math.Option.{Option, none, some, get_or}
 use Prim.Native.Nat.{ℕ, zero, suc, ◌+◌, ◌-◌, ◌≤◌, ◌<◌}
 use native.Mathlib.Omega.{arith}
 use Rattle.std.proofs.Math.Dec.{eqb, leb, ltb}
@@ -41,7 +40,7 @@ pub record Sound (v : View) : Type 0 where
   pub once : (j : ℕ) → j < count_in v → repeated v j ≡ false
 
 -- Where no line is malformed every slot line states a tag.
-slots_read : (v : View) → first (malformed_in v) (1 + groups_in v + count_in v) ≡ none
+slots_read : (v : View) → first (malformed_in v) (1 + groups_in v + count_in v) ≡ None
     → (j : ℕ) → j < count_in v → is_some (v.slot_at (slot_line_in v j)) ≡ true
 unfolding malformed_in slot_line_in
 slots_read v lines j lt =
@@ -94,13 +93,13 @@ pass-of-sound v s =
             rw e (rw (rw line at (s.slot-lines (k - groups_in v) (omega arith))))
 
 -- A number taken from a well-formed slot line is the one that it states.
-pub slot_in-reads : (v : View) (j : ℕ) {t : ℕ} → v.slot_at (slot_line_in v j) ≡ some t → slot_in v j ≡ t
+pub slot_in-reads : (v : View) (j : ℕ) {t : ℕ} → v.slot_at (slot_line_in v j) ≡ Some t → slot_in v j ≡ t
 unfolding slot_in
 slot_in-reads v j e = rw e
 
 -- 17 comes from the slots alone, behind lines that are well formed.
 met-unwired : (v : View) {j : ℕ} → Met (checking_checks v) 17 j
-    → (first (malformed_in v) (1 + groups_in v + count_in v) ≡ none) × (first (holds_unwired v) (count_in v) ≡ some j)
+    → (first (malformed_in v) (1 + groups_in v + count_in v) ≡ None) × (first (holds_unwired v) (count_in v) ≡ Some j)
 unfolding checking_checks opening_checks number_checks
 met-unwired v {j} met =
     let checks : List Check = (12, first (malformed_in v) (1 + groups_in v + count_in v)) ∷ number_checks v in
@@ -122,7 +121,7 @@ unwired-named image {j} e =
     )
 
 -- Where the line of a slot is well formed, looking at it decides by its tag.
-slot-looked : (v : View) (t j : ℕ) (next : Outcome Found) {u : ℕ} → v.slot_at (slot_line_in v j) ≡ some u
+slot-looked : (v : View) (t j : ℕ) (next : Outcome Found) {u : ℕ} → v.slot_at (slot_line_in v j) ≡ Some u
     → at_slot v t j next ≡ cond (eqb u t) (answered (number j)) next
 unfolding at_slot in_order met_at is_some slot_in
 slot-looked v t j next e = rw e
@@ -230,7 +229,7 @@ module _ (v : View) (sound : Sound v) (many : 0 < groups_in v) where
           place-below (end_in v g - start_in v g) (seed_in v g) c t (omega (arith, filled)),
         )
 
-    slot-some : (j : ℕ) → j < count_in v → (u : ℕ) × (v.slot_at (slot_line_in v j) ≡ some u)
+    slot-some : (j : ℕ) → j < count_in v → (u : ℕ) × (v.slot_at (slot_line_in v j) ≡ Some u)
     slot-some j lt = some-of-is_some (v.slot_at (slot_line_in v j)) (sound.slot-lines j lt)
 
     pub lookup-ends : Looked v t (lookup_in_group v t (own_group v t))
@@ -260,8 +259,8 @@ module _ (v : View) (sound : Sound v) (many : 0 < groups_in v) where
             ∙ rw e (rw (slot-looked v t (own_slot v 0 t) _ reads₀, slot-looked v t (own_slot v 1 t) (answered unknown) reads₁)) in
             at_slots u₀ u₁ reads₀ reads₁ (slot-inside 0 filled) (slot-inside 1 filled) (eqb u₀ t) (eqb u₁ t) refl refl ends
           where
-            at_slots : (u₀ u₁ : ℕ) → v.slot_at (slot_line_in v (own_slot v 0 t)) ≡ some u₀ → v.slot_at
-                (slot_line_in v (own_slot v 1 t)) ≡ some u₁
+            at_slots : (u₀ u₁ : ℕ) → v.slot_at (slot_line_in v (own_slot v 0 t)) ≡ Some u₀ → v.slot_at
+                (slot_line_in v (own_slot v 1 t)) ≡ Some u₁
                 → own_slot v 0 t < count_in v → own_slot v 1 t < count_in v
                 → (p q : Bool) → eqb u₀ t ≡ p → eqb u₁ t ≡ q
                 → outcome ≡ cond (eqb u₀ t) (answered (number (own_slot v 0 t)))
@@ -290,9 +289,9 @@ pub count_most : (image : List ℕ) → count_in (view_of image) ≤ tags_max
 unfolding count_in view_of
 count_most image = go (image_header (line_at 0 image)) refl
   where
-    go : (o : Option (ℕ × ℕ)) → image_header (line_at 0 image) ≡ o → (get_or o (0, 0)).0 ≤ tags_max
-    go none e = omega arith
-    go (some (n, b)) e = (image-header-only n b (line_at 0 image) e).1
+    go : (o : Option (ℕ × ℕ)) → image_header (line_at 0 image) ≡ o → (unwrap_or o (0, 0)).0 ≤ tags_max
+    go None e = omega arith
+    go (Some (n, b)) e = (image-header-only n b (line_at 0 image) e).1
 
 -- What an image that is accepted is, and it has a group.
 pub accepted-sound : (image : List ℕ) {a : ℕ} → checking_of image ≡ answered a → Sound (view_of image) × (0 < groups_in (view_of image))

@@ -1,7 +1,6 @@
 -- Images at which two refusals are due, by computation: the earlier one comes. Assumes nothing.
 use Rattle.std.specs.Prelude.{◌≡◌, refl, ℕ}
 use mathlib.Core.List.{[], ◌∷◌, flatten}
-use Rattle.std.proofs.Math.Option.{or_else}
 use Rattle.refusal.specs.Outcome.{refused}
 use Rattle.lists.specs.First.{first, met_at, is_some}
 use Rattle.refusal.specs.Checks.{met, in_order}
@@ -16,7 +15,7 @@ use Rattle.image.specs.Checking.{checking_checks, checking_of}
 
 -- `unfolding computed` opens every definition that these compute through.
 computed : ℕ
-unfolding flatten or_else first met_at is_some met in_order product high_part hashed group_of multiplier place_of leading
+unfolding flatten first met_at is_some met in_order product high_part hashed group_of multiplier place_of leading
     figure value_from same field line_at pair_line tag_line ended both_fields pair_of tag_of within image_header group_line
     slot_line image_length view_of count_in groups_in start_in seed_in slot_line_in slot_in end_in faulty candidate_in opening_checks
     malformed_in group_of_slot holds_unwired misplaced repeated number_checks checking_checks checking_of

@@ -1,10 +1,9 @@
 -- The groups of an image of which none is faulty: they follow one another from 0 to N, and each slot lies in exactly one.
 -- Assumes nothing.
-use Rattle.std.specs.Prelude.{◌≡◌, Bool, true, false, not, ◌&&◌, ◌||◌, ℕ, zero, suc, ◌+◌, ◌-◌, ◌≤◌, ◌<◌, eqb}
+use Rattle.std.specs.Prelude.{◌≡◌, Bool, true, false, not, ◌&&◌, ◌||◌, ℕ, zero, suc, ◌+◌, ◌-◌, ◌≤◌, ◌<◌, eqb, Option, None, Some, unwrap_or}
 use Rattle.std.proofs.Math.Path.{refl}
 use Rattle.std.proofs.Common.{sym, ◌∙◌, true≢false, add-zero, arith}
 use Rattle.std.proofs.Math.Bool.{or-true, or-false}
-use Rattle.std.proofs.Math.Option.{Option, none, some, get_or}
 use Rattle.std.proofs.Math.Dec.{leb, ltb}
 use borrow.Author.Tests.{ltb-true, ltb-false, lt-ltb, le-ltb, leb-true, le-leb, eqb-true, eq-eqb, not-false}
 use Rattle.refusal.specs.Limits.{group_max}
@@ -121,11 +120,11 @@ module _ (v : View) (fair : AllFair v) where
       go (first (λ g. leb (start_in v g) j && ltb j (end_in v g)) (groups_in v)) refl g lies
     where
       go : (o : Option ℕ) → first (λ g. leb (start_in v g) j && ltb j (end_in v g)) (groups_in v) ≡ o
-          → (g : ℕ) → LiesIn v j g → LiesIn v j (get_or o 0)
-      go none e g lies =
+          → (g : ℕ) → LiesIn v j g → LiesIn v j (unwrap_or o 0)
+      go None e g lies =
           absurd (true≢false (sym (rw (le-leb (start_in v g) j lies.from, lt-ltb j (end_in v g) lies.below))
           ∙ first-none (λ g. leb (start_in v g) j && ltb j (end_in v g)) (groups_in v) e g lies.group))
-      go (some h) e g lies =
+      go (Some h) e g lies =
           let at = first_some (λ g. leb (start_in v g) j && ltb j (end_in v g)) (groups_in v) e in
           let (from, before) = both-of-and (leb (start_in v h) j) (ltb j (end_in v h)) at.holds in
           record { group = at.below; from = leb-true (start_in v h) j from; below = ltb-true j (end_in v h) before }

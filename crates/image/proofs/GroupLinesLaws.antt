@@ -1,8 +1,7 @@
 -- Two views that read a group's line alike, and the next one where it counts, find the group alike and check it alike. Assumes nothing.
-use Rattle.std.specs.Prelude.{◌≡◌, refl, Bool, not, ◌&&◌, ℕ, suc, ◌<◌}
+use Rattle.std.specs.Prelude.{◌≡◌, refl, Bool, not, ◌&&◌, ℕ, suc, ◌<◌, Option, unwrap_or}
 use Rattle.std.proofs.Math.Path.{ap}
 use Rattle.std.proofs.Math.Bool.{true, false, cond}
-use Rattle.std.proofs.Math.Option.{Option, get_or}
 use Rattle.std.proofs.Math.Dec.{ltb}
 use borrow.Author.Tests.{ltb-true, not-false}
 use Rattle.lists.specs.First.{is_some}
@@ -15,11 +14,11 @@ module _ (v w : View) (g : ℕ) (same-groups : groups_in v ≡ groups_in w) (sam
     (same-own : v.group_at (suc g) ≡ w.group_at (suc g)) where
   pub same_start : start_in v g ≡ start_in w g
   unfolding start_in
-  same_start = ap (λ (o : Option (ℕ × ℕ)). (get_or o (0, 0)).0) same-own
+  same_start = ap (λ (o : Option (ℕ × ℕ)). (unwrap_or o (0, 0)).0) same-own
 
   pub same-seed : seed_in v g ≡ seed_in w g
   unfolding seed_in
-  same-seed = ap (λ (o : Option (ℕ × ℕ)). (get_or o (0, 0)).1) same-own
+  same-seed = ap (λ (o : Option (ℕ × ℕ)). (unwrap_or o (0, 0)).1) same-own
 
   -- The next group's line counts only where there is a next group.
   module _ (same_next : suc g < groups_in v → v.group_at (suc (suc g)) ≡ w.group_at (suc (suc g))) where
@@ -28,8 +27,8 @@ module _ (v w : View) (g : ℕ) (same-groups : groups_in v ≡ groups_in w) (sam
     same_end = rw (← same-groups, ← same_count) (go (ltb (suc g) (groups_in v)) refl)
       where
         go : (b : Bool) → ltb (suc g) (groups_in v) ≡ b
-            → cond (ltb (suc g) (groups_in v)) (get_or (v.group_at (suc (suc g))) (0, 0)).0 (count_in v)
-            ≡ cond (ltb (suc g) (groups_in v)) (get_or (w.group_at (suc (suc g))) (0, 0)).0 (count_in v)
+            → cond (ltb (suc g) (groups_in v)) (unwrap_or (v.group_at (suc (suc g))) (0, 0)).0 (count_in v)
+            ≡ cond (ltb (suc g) (groups_in v)) (unwrap_or (w.group_at (suc (suc g))) (0, 0)).0 (count_in v)
         go true e = rw (same_next (ltb-true (suc g) (groups_in v) e))
         go false e = rw e
 

@@ -2,7 +2,7 @@
 use Rattle.std.specs.Prelude.{◌≡◌, refl, ◌⊎◌, Bool, true, false, cond, not, List, [], ◌∷◌, ℕ, suc, ◌-◌, ◌≤◌, ◌<◌, eqb, ltb, length}
 use Rattle.std.proofs.Math.Path.{sym, ap}
 use Rattle.std.proofs.Common.{◌∙◌, inl, inr, arith, ltb-false, eqb-true}
-use Rattle.std.proofs.Math.Option.{none, some, get_or}
+use Rattle.std.specs.Prelude.{None, Some, unwrap_or}
 use Rattle.std.proofs.lemmas.Bool.{eqb-false, not-false}
 use Rattle.lists.proofs.BoolLaws.{neither-of-or}
 use Rattle.refusal.specs.Limits.{unwired}
@@ -83,7 +83,7 @@ module _ (v w : View) (t : ℕ) (wired : t ≡ unwired → ⊥) (same_size : v.s
 
       -- A slot looked at: equal lines, and what comes next only where the line is well formed and holds another tag.
       slot-agrees : (c : ℕ) (o p : Outcome Found) → AgreeAt v w (slot_line_in v (candidate_in v own c t))
-          → ((u : ℕ) → v.slot_at (slot_line_in v (candidate_in v own c t)) ≡ some u → (u ≡ t → ⊥) → o ≡ p)
+          → ((u : ℕ) → v.slot_at (slot_line_in v (candidate_in v own c t)) ≡ Some u → (u ≡ t → ⊥) → o ≡ p)
           → at_slot v t (candidate_in v own c t) o ≡ at_slot w t (candidate_in w own c t) p
       unfolding at_slot slot_in
       slot-agrees c o p same next = in_order-agree _ _ _ _ (cc (line, same_place c), λ passes. held passes)
@@ -92,14 +92,16 @@ module _ (v w : View) (t : ℕ) (wired : t ≡ unwired → ⊥) (same_size : v.s
           line = same.slot ∙ rw (same_place c)
 
           held : met_at (slot_line_in v (candidate_in v own c t))
-              (not (is_some (v.slot_at (slot_line_in v (candidate_in v own c t))))) ≡ none
-              → cond (eqb (get_or (v.slot_at (slot_line_in v (candidate_in v own c t))) 0) t) (answered (number (candidate_in v own c t))) o
-              ≡ cond (eqb (get_or (w.slot_at (slot_line_in w (candidate_in w own c t))) 0) t) (answered (number (candidate_in w own c t))) p
+              (not (is_some (v.slot_at (slot_line_in v (candidate_in v own c t))))) ≡ None
+              → cond (eqb (unwrap_or (v.slot_at (slot_line_in v (candidate_in v own c t))) 0) t)
+              (answered (number (candidate_in v own c t))) o
+              ≡ cond (eqb (unwrap_or (w.slot_at (slot_line_in w (candidate_in w own c t))) 0) t)
+              (answered (number (candidate_in w own c t))) p
           held passes =
               let (u, reads) = some-of-is_some _ (not-false _ (false-of-met_at (slot_line_in v (candidate_in v own c t)) _ passes)) in
               rw (← line, ← same-slot c, reads) (go u reads (eqb u t) refl)
             where
-              go : (u : ℕ) → v.slot_at (slot_line_in v (candidate_in v own c t)) ≡ some u → (b : Bool) → eqb u t ≡ b
+              go : (u : ℕ) → v.slot_at (slot_line_in v (candidate_in v own c t)) ≡ Some u → (b : Bool) → eqb u t ≡ b
                   → cond (eqb u t) (answered (number (candidate_in v own c t))) o ≡ cond (eqb u t)
                   (answered (number (candidate_in v own c t))) p
               go u reads true e = rw e
@@ -179,7 +181,7 @@ slot-answers v t i j next inside e =
     let (u, reads) = some-of-is_some line (not-false (is_some line) (false-of-met_at (slot_line_in v i) (not (is_some line)) well)) in
     go u reads (eqb u t) refl (rw reads at e')
   where
-    go : (u : ℕ) → v.slot_at (slot_line_in v i) ≡ some u → (b : Bool) → eqb u t ≡ b
+    go : (u : ℕ) → v.slot_at (slot_line_in v i) ≡ Some u → (b : Bool) → eqb u t ≡ b
         → cond (eqb u t) (answered (number i)) next ≡ answered (number j) → HoldsTag v j t ⊎ (next ≡ answered (number j))
     go u reads true f e =
         let same : i ≡ j = (let g = rw f at e in cc) in

@@ -1,9 +1,8 @@
 -- Behind its lines an image is checked by the numbers that they state alone. Assumes nothing.
 use Rattle.image.specs.SameNumbers.{SameNumbers}
-use Rattle.std.specs.Prelude.{◌≡◌, Bool, true, false, ◌&&◌, ℕ, suc, ◌<◌}
+use Rattle.std.specs.Prelude.{◌≡◌, Bool, true, false, ◌&&◌, ℕ, suc, ◌<◌, Option, None, Some, unwrap_or}
 use Rattle.std.proofs.Math.Path.{refl, ap}
 use Rattle.std.proofs.Common.{sym, ◌∙◌, arith, ltb-true, ltb-false}
-use Rattle.std.proofs.Math.Option.{Option, none, some, get_or}
 use Rattle.std.proofs.Math.Dec.{leb, ltb}
 use Rattle.lists.specs.First.{first, is_some}
 use Rattle.lists.proofs.FirstLaws.{first_some, first_cong}
@@ -33,7 +32,7 @@ module _ (v w : View) (same : SameNumbers v w) where
   same-group : (j : ℕ) → group_of_slot v j ≡ group_of_slot w j
   unfolding group_of_slot
   same-group j =
-      ap (λ (o : Option ℕ). get_or o 0)
+      ap (λ (o : Option ℕ). unwrap_or o 0)
       (first_cong _ _ (groups_in v) (λ g below. rw (same.starts g below, same_end g below))
       ∙ ap (first (λ g. leb (start_in w g) j && ltb j (end_in w g))) same.groups)
 
@@ -41,9 +40,9 @@ module _ (v w : View) (same : SameNumbers v w) where
   unfolding group_of_slot
   group-below j = go (first (λ g. leb (start_in v g) j && ltb j (end_in v g)) (groups_in v)) refl
     where
-      go : (o : Option ℕ) → first (λ g. leb (start_in v g) j && ltb j (end_in v g)) (groups_in v) ≡ o → get_or o 0 < groups_in v
-      go none e = same.some-group
-      go (some g) e = (first_some _ (groups_in v) e).below
+      go : (o : Option ℕ) → first (λ g. leb (start_in v g) j && ltb j (end_in v g)) (groups_in v) ≡ o → unwrap_or o 0 < groups_in v
+      go None e = same.some-group
+      go (Some g) e = (first_some _ (groups_in v) e).below
 
   same-candidate : (g c t : ℕ) → g < groups_in v → candidate_in v g c t ≡ candidate_in w g c t
   unfolding candidate_in

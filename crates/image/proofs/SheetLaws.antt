@@ -1,9 +1,8 @@
 -- An image's length, and that line k of it is the line that was put there. Assumes nothing.
-use Rattle.std.specs.Prelude.{◌≡◌, refl, length}
+use Rattle.std.specs.Prelude.{◌≡◌, refl, length, Some}
 use Rattle.std.proofs.Common.{◌∙◌, arith, length-append}
 use Rattle.std.proofs.Math.Path.{ap}
 use mathlib.Core.List.{[]}
-use Rattle.std.proofs.Math.Option.{some}
 use Prim.Native.Nat.{ℕ, suc, ◌+◌, ◌*◌, ◌^◌, ◌≤◌, ◌<◌}
 use Rattle.std.proofs.Math.ListN.{get_or-append}
 use Rattle.std.proofs.Math.Seq.{get_or-append-add}
@@ -69,14 +68,14 @@ module _ (s : Sheet) where
 
   -- What stands in its range reads back.
   pub header-reads : s.count ≤ tags_max → 1 ≤ s.groups → s.groups ≤ groups_max
-      → image_header (line_at 0 (bytes_of s)) ≡ some (s.count, s.groups)
+      → image_header (line_at 0 (bytes_of s)) ≡ Some (s.count, s.groups)
   header-reads n one b = rw header_at (image-header-line s.count s.groups n one b)
 
   pub group_reads : (g : ℕ) → g < s.groups → s.start g < 10 ^ 5 → s.seed g ≤ seed_max
-      → group_line (line_at (suc g) (bytes_of s)) ≡ some (s.start g, s.seed g)
+      → group_line (line_at (suc g) (bytes_of s)) ≡ Some (s.start g, s.seed g)
   group_reads g lt start seed = rw (group_at_lem g lt) (group-line (s.start g) (s.seed g) start seed)
 
-  pub slot-reads : (j : ℕ) → j < s.count → s.slot j < tag_end → slot_line (line_at (1 + s.groups + j) (bytes_of s)) ≡ some (s.slot j)
+  pub slot-reads : (j : ℕ) → j < s.count → s.slot j < tag_end → slot_line (line_at (1 + s.groups + j) (bytes_of s)) ≡ Some (s.slot j)
   slot-reads j lt tag = rw (slot_at_lem j lt) (slot-line (s.slot j) tag)
 
 -- Two sheets state the same numbers: the same N and B, for each group the same start and seed, and for each slot the same tag.

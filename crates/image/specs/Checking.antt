@@ -1,6 +1,5 @@
 -- The operation "checking". Assumes nothing.
-use Rattle.std.specs.Prelude.{ℕ, zero, suc, ◌+◌, Bool, cond, not, ◌&&◌, ◌||◌, List, [], ◌∷◌, ◌++◌, eqb, leb, ltb}
-use Rattle.std.proofs.Math.Option.{get_or}
+use Rattle.std.specs.Prelude.{ℕ, zero, suc, ◌+◌, Bool, cond, not, ◌&&◌, ◌||◌, List, [], ◌∷◌, ◌++◌, eqb, leb, ltb, unwrap_or}
 use Rattle.refusal.specs.Limits.{unwired}
 use Rattle.refusal.specs.Outcome.{Outcome, answered}
 use Rattle.lists.specs.First.{first, is_some}
@@ -29,7 +28,7 @@ malformed_in v (suc k) = not (cond (ltb k (groups_in v)) (is_some (v.group_at (s
 
 -- The group that slot j lies in: the one that starts at j or before and ends after it.
 unfoldable pub group_of_slot : View → ℕ → ℕ
-group_of_slot v j = get_or (first (λ g. leb (start_in v g) j && ltb j (end_in v g)) (groups_in v)) 0
+group_of_slot v j = unwrap_or (first (λ g. leb (start_in v g) j && ltb j (end_in v g)) (groups_in v)) 0
 
 -- Slot j is one "holding 0".
 unfoldable pub holds_unwired : View → ℕ → Bool

@@ -1,6 +1,5 @@
 -- The lines that a lookup comes to read. Assumes nothing.
-use Rattle.std.specs.Prelude.{◌≡◌, true, ℕ, suc, ◌<◌}
-use Rattle.std.proofs.Math.Option.{some}
+use Rattle.std.specs.Prelude.{◌≡◌, true, ℕ, suc, ◌<◌, Some}
 use Rattle.refusal.specs.Limits.{unwired}
 use Rattle.lists.specs.First.{is_some}
 use Rattle.refusal.specs.Checks.{Pass}
@@ -29,5 +28,5 @@ pub record LinesRead (v : View) (t : ℕ) (Said : ℕ → Type 0) : Type 0 where
       → (start_in v (own_group v t) ≡ end_in v (own_group v t) → ⊥) → Said (slot_line_in v (own_slot v 0 t))
   pub second-slot : (t ≡ unwired → ⊥) → Pass (lookup_checks v (own_group v t))
       → (start_in v (own_group v t) ≡ end_in v (own_group v t) → ⊥)
-      → (u : ℕ) → v.slot_at (slot_line_in v (own_slot v 0 t)) ≡ some u → (u ≡ t → ⊥)
+      → (u : ℕ) → v.slot_at (slot_line_in v (own_slot v 0 t)) ≡ Some u → (u ≡ t → ⊥)
       → Said (slot_line_in v (own_slot v 1 t))

@@ -1,6 +1,5 @@
 -- What an image reads as, for any bytes. Checking and lookup see the bytes only through this. Assumes nothing.
-use Rattle.std.specs.Prelude.{ℕ, suc, ◌+◌, ◌-◌, Bool, cond, not, ◌&&◌, ◌||◌, List, eqb, ltb, length}
-use Rattle.std.proofs.Math.Option.{Option, get_or}
+use Rattle.std.specs.Prelude.{ℕ, suc, ◌+◌, ◌-◌, Bool, cond, not, ◌&&◌, ◌||◌, List, eqb, ltb, length, Option, unwrap_or}
 use Rattle.refusal.specs.Limits.{group_max}
 use Rattle.hash.specs.Formula.{place_of}
 use Rattle.text.specs.Line.{line_at, image_header, group_line, slot_line}
@@ -22,23 +21,23 @@ view_of bytes = record {
 
 -- The numbers that the lines state. Where a line is malformed they are 0, and an earlier check has refused.
 unfoldable pub count_in : View → ℕ
-count_in v = (get_or v.header (0, 0)).0
+count_in v = (unwrap_or v.header (0, 0)).0
 
 unfoldable pub groups_in : View → ℕ
-groups_in v = (get_or v.header (0, 0)).1
+groups_in v = (unwrap_or v.header (0, 0)).1
 
 unfoldable pub start_in : View → ℕ → ℕ
-start_in v g = (get_or (v.group_at (suc g)) (0, 0)).0
+start_in v g = (unwrap_or (v.group_at (suc g)) (0, 0)).0
 
 unfoldable pub seed_in : View → ℕ → ℕ
-seed_in v g = (get_or (v.group_at (suc g)) (0, 0)).1
+seed_in v g = (unwrap_or (v.group_at (suc g)) (0, 0)).1
 
 -- "Slot j is line 1 + B + j and is named by j."
 unfoldable pub slot_line_in : View → ℕ → ℕ
 slot_line_in v j = 1 + groups_in v + j
 
 unfoldable pub slot_in : View → ℕ → ℕ
-slot_in v j = get_or (v.slot_at (slot_line_in v j)) 0
+slot_in v j = unwrap_or (v.slot_at (slot_line_in v j)) 0
 
 -- A group ends at "the next start (N after the last group)".
 unfoldable pub end_in : View → ℕ → ℕ

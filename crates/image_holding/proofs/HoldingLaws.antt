@@ -1,8 +1,7 @@
 -- An image is sound exactly where its slots hold what `Holding` says. Assumes nothing.
-use Rattle.std.specs.Prelude.{◌≡◌, refl, ◌⊎◌, Bool, true, false, ◌&&◌, ℕ, ◌<◌}
+use Rattle.std.specs.Prelude.{◌≡◌, refl, ◌⊎◌, Bool, true, false, ◌&&◌, ℕ, ◌<◌, Some}
 use Rattle.std.proofs.Common.{sym, ap, ◌∙◌, true≢false, arith, ne_eqb, eq-eqb}
 use Rattle.std.proofs.Math.Bool.{and-false}
-use Rattle.std.proofs.Math.Option.{some}
 use Rattle.std.proofs.Math.Dec.{eqb, leb}
 use Rattle.lists.specs.First.{is_some}
 use Rattle.lists.proofs.FirstLaws.{first_out, is_some-of-none, some-of-is_some}
@@ -18,7 +17,7 @@ use Rattle.image_holding.specs.Holding.{Holding}
 pub slot-holds : (v : View) (j : ℕ) → j < count_in v → is_some (v.slot_at (slot_line_in v j)) ≡ true → HoldsTag v j (slot_in v j)
 slot-holds v j lt well =
     let (t, reads) = some-of-is_some (v.slot_at (slot_line_in v j)) well in
-    record { slot = lt; tag = reads ∙ ap some (sym (slot_in-reads v j reads)) }
+    record { slot = lt; tag = reads ∙ ap Some (sym (slot_in-reads v j reads)) }
 
 -- Every slot of a sound image that holds a tag is one of the tag's two in its group.
 pub held-own : (v : View) → Sound v → (j t : ℕ) → HoldsTag v j t

@@ -1,11 +1,9 @@
 -- What the steps of weighted insertion answer, over an array of places and a word. Assumes nothing.
-use Rattle.std.specs.Prelude.{ℕ, ◌+◌, ◌^◌, ◌<◌, Bool, List}
+use Rattle.std.specs.Prelude.{ℕ, ◌+◌, ◌^◌, ◌<◌, Bool, List, Option, None, Some}
 use Rattle.filling.specs.Weight.{key_weight}
 use Rattle.filling.specs.Insertion.{Lightest, LightestWith, NoneWith}
 use Rattle.bits.specs.WordBits.{choice_in}
 use Rattle.places.specs.Array.{entry_of}
-use Rattle.insertion.specs.declared.Inserted.{Inserted}
-use Rattle.insertion.specs.declared.Inserted.TheVariants.{Word, Nothing}
 
 -- A word of as many bits as there are keys that is the lightest.
 pub record LightestWord (places : List ℕ) (count word : ℕ) : Type 0 where
@@ -18,6 +16,6 @@ pub record LightestWordWith (places : List ℕ) (k : ℕ) (choice : Bool) (word 
   pub lightest : LightestWith (entry_of places) key_weight k choice (choice_in word)
 
 -- The insertion of key k with the word's choice: the lightest word with that choice, or nothing separates the keys with it.
-abbrev pub InsertedIs : List ℕ → ℕ → ℕ → Inserted → Type 0
-InsertedIs places k word (Word result) = LightestWordWith places k (choice_in word k) result
-InsertedIs places k word Nothing = NoneWith (entry_of places) k (choice_in word k)
+abbrev pub InsertedIs : List ℕ → ℕ → ℕ → Option ℕ → Type 0
+InsertedIs places k word (Some result) = LightestWordWith places k (choice_in word k) result
+InsertedIs places k word None = NoneWith (entry_of places) k (choice_in word k)

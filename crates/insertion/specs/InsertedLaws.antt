@@ -1,9 +1,9 @@
 -- The steps of weighted insertion, over an array of places and a word: a law for each step of the code. Assumes nothing.
-use Rattle.std.specs.Prelude.{ℕ, suc, ◌+◌, ◌-◌, ◌^◌, ◌≤◌, ◌<◌, ◌≡◌, Bool, not, cond, List, ltb, length, get_or, set}
+use Rattle.std.specs.Prelude.{ℕ, suc, ◌+◌, ◌-◌, ◌^◌, ◌≤◌, ◌<◌, ◌≡◌, Bool, not, cond, List, ltb, length, get_or, set, Option}
+use Rattle.std.specs.Prelude.{None, Some, option_map}
 use Rattle.std.proofs.Math.Path.{refl}
 use Rattle.std.proofs.Common.{sym, ◌∙◌, ap, arith, ltb-true, ltb-false}
 use Rattle.std.proofs.Math.Bool.{true, false}
-use Rattle.std.proofs.Math.Option.{some, map}
 use Rattle.std.proofs.Math.Numerals.{add-one}
 use Rattle.refusal.specs.Limits.{group_max}
 use Rattle.bits.specs.Bit.{set_bit}
@@ -21,23 +21,20 @@ use Rattle.bits.specs.WordBits.{choice_in, toggle_bit, with_choice}
 use Rattle.bits.specs.WordBitsLaws.{toggle-below, toggle-toggled, choice-own, choice-kept, choice-grown}
 use Rattle.places.specs.Array.{entry_of, Candidates, keys_of}
 use Rattle.places.proofs.ArrayLaws.{entry_other, entry-part, candidates-fewer}
-use Rattle.insertion.specs.Answer.{inserted_meaning}
 use Rattle.insertion.specs.TakenWordLaws.{lightest-word, word-lightest, nothing-word}
 use Rattle.weight.specs.WordWeight.{word_weight, lighter_of}
 use Rattle.insertion.specs.Occupants.{place_taken, occupants_of, Occupied}
 use Rattle.insertion.specs.OccupantsLaws.{occupied-same, free-untaken, occupant-within, occupied-more, occupied-only, occupied-of}
 use Rattle.insertion.specs.Inserted.{LightestWord, LightestWordWith, InsertedIs}
-use Rattle.insertion.specs.declared.Inserted.{Inserted}
-use Rattle.insertion.specs.declared.Inserted.TheVariants.{Word, Nothing}
 
 -- The answer with key k is the word of the sequence taken for the keys 0 to k.
-abbrev WithKeyIs : List ℕ → ℕ → Inserted → Type 0
-WithKeyIs places k r = inserted_meaning r ≡ map word_of (sequence_taken (keys_of (k + 1) places))
+abbrev WithKeyIs : List ℕ → ℕ → Option ℕ → Type 0
+WithKeyIs places k r = r ≡ option_map word_of (sequence_taken (keys_of (k + 1) places))
 
 -- Before it: the word of the sequence taken for the keys before k.
 abbrev Before : List ℕ → ℕ → ℕ → Type 0
 Before places k word =
-    (k < group_max) × Candidates places (k + 1) × (some word ≡ map word_of (sequence_taken (keys_of k places)))
+    (k < group_max) × Candidates places (k + 1) × (Some word ≡ option_map word_of (sequence_taken (keys_of k places)))
 
 -- What inserting key k with the word's choice wants.
 abbrev Ready : List ℕ → ℕ → ℕ → List ℕ → Type 0
@@ -75,7 +72,7 @@ module _ (places : List ℕ) where
     module _ {cells : List ℕ} (occupied : Occupied places word k cells) where
       -- At a free place the insertion is done.
       pub inserting-done : Lightest (entry_of places) key_weight k (choice_in word) → get_or cells place 0 ≡ 0
-          → InsertedIs places k word (Word choices)
+          → InsertedIs places k word (Some choices)
       inserting-done light free = record {
         below = state.below;
         lightest =
@@ -96,7 +93,7 @@ module _ (places : List ℕ) where
 
         -- Where it has moved since, nothing separates the keys.
         pub inserting-returned : (choice_number (choice_in choices o) ≡ choice_number (choice_in word o) → ⊥)
-            → InsertedIs places k word Nothing
+            → InsertedIs places k word None
         inserting-returned moved =
             let (g, occupies, went) =
             walk-returned (entry_of places) state.walk o occupant-below goes (λ e. moved (ap choice_number e)) in
@@ -110,7 +107,7 @@ module _ (places : List ℕ) where
           occupies = walk-occupied (entry_of places) state.walk o occupant-below goes stays
 
           -- With no eviction left, nothing separates the keys either.
-          pub inserting-stuck : left ≡ 0 → InsertedIs places k word Nothing
+          pub inserting-stuck : left ≡ 0 → InsertedIs places k word None
           inserting-stuck out = insertion-stuck (entry_of places) state.insertion o occupies out
 
           -- The place that it leaves is one of its two,
@@ -151,36 +148,36 @@ module _ (places : List ℕ) where
         (λ i lt b. refl) (choice-kept k word was.below c) was.lightest
 
     -- which is the choice that it is inserted with.
-    chosen-lightest : (c : Bool) {v : ℕ} → InsertedIs places k (with_choice word k c) (Word v) → LightestWordWith places k c v
+    chosen-lightest : (c : Bool) {v : ℕ} → InsertedIs places k (with_choice word k c) (Some v) → LightestWordWith places k c v
     chosen-lightest c inserted = rw (choice-own k word was.below c) at inserted
 
-    chosen_none : (c : Bool) → InsertedIs places k (with_choice word k c) Nothing → NoneWith (entry_of places) k c
+    chosen_none : (c : Bool) → InsertedIs places k (with_choice word k c) None → NoneWith (entry_of places) k c
     chosen_none c inserted = rw (choice-own k word was.below c) at inserted
 
     -- The lightest word of the keys up to k is the answer.
     lightest-up : (v : ℕ) → v < 2 ^ (k + 1) → Lightest (entry_of places) key_weight (suc k) (choice_in v)
-        → WithKeyIs places k (Word v)
+        → WithKeyIs places k (Some v)
     lightest-up v small light =
         lightest-word places (k + 1) v (omega (arith, before.0)) (record { below = small; lightest = rw (add-one k) light })
 
     -- Where the insertion with one choice has no result, that with the other stays.
-    pub one-stays : (c : Bool) (v : ℕ) → InsertedIs places k (with_choice word k c) (Word v)
-        → InsertedIs places k (with_choice word k (not c)) Nothing → WithKeyIs places k (Word v)
+    pub one-stays : (c : Bool) (v : ℕ) → InsertedIs places k (with_choice word k c) (Some v)
+        → InsertedIs places k (with_choice word k (not c)) None → WithKeyIs places k (Some v)
     one-stays c v inserted other =
         let light = chosen-lightest c inserted in
         lightest-up v light.below
         (only-lightest (entry_of places) key_weight k c (choice_in v) light.lightest (chosen_none (not c) other))
 
-    pub second-stays : (r : Inserted) → InsertedIs places k word Nothing → InsertedIs places k (set_bit word k) r
+    pub second-stays : (r : Option ℕ) → InsertedIs places k word None → InsertedIs places k (set_bit word k) r
         → WithKeyIs places k r
     unfolding with_choice
-    second-stays (Word b) first second = one-stays true b second first
-    second-stays Nothing first second =
+    second-stays (Some b) first second = one-stays true b second first
+    second-stays None first second =
         nothing-word places (k + 1)
         (rw (← add-one k) at (neither-separate (entry_of places) k (chosen_none false first) (chosen_none true second)))
 
     -- Where the first moved no key, its word stays: what is lighter would be lighter without key k.
-    unmoved-stays : InsertedIs places k word (Word word) → WithKeyIs places k (Word word)
+    unmoved-stays : InsertedIs places k word (Some word) → WithKeyIs places k (Some word)
     unfolding total choice_weight with_choice
     unmoved-stays first =
         let own = chosen-lightest false first in
@@ -213,7 +210,7 @@ module _ (places : List ℕ) where
 
       -- Where its place under a choice is free, no key moves, and key k has the place.
       module _ (c : Bool) (free : get_or cells (entry_of places k c) 0 ≡ 0) where
-        unmoved : InsertedIs places k (with_choice word k c) (Word (with_choice word k c))
+        unmoved : InsertedIs places k (with_choice word k c) (Some (with_choice word k c))
         unmoved =
             inserting-done (inserting-start k (with_choice word k c) (choice-grown k word was.below c) (grown-lightest c))
             (occupied-with c) (grown-lightest c) (rw (choice-own k word was.below c) free)
@@ -224,13 +221,13 @@ module _ (places : List ℕ) where
             (rw (choice-own k word was.below c)) (before.1.below k (omega arith) c) free)
 
       -- So the word stays where the first place of key k is free,
-      pub first-free : get_or cells (entry_of places k false) 0 ≡ 0 → WithKeyIs places k (Word word)
+      pub first-free : get_or cells (entry_of places k false) 0 ≡ 0 → WithKeyIs places k (Some word)
       unfolding with_choice
       first-free free = unmoved-stays (unmoved false free)
 
       -- and where a key that stands at its own first place has it and the second is free, key k goes to its second place.
       pub second-free : (o : ℕ) → get_or cells (entry_of places k false) 0 ≡ o + 1 → choice_in word o ≡ false
-          → get_or cells (entry_of places k true) 0 ≡ 0 → WithKeyIs places k (Word (set_bit word k))
+          → get_or cells (entry_of places k true) 0 ≡ 0 → WithKeyIs places k (Some (set_bit word k))
       unfolding with_choice
       second-free o cell first free =
           let (lower, had) = occupied.who (entry_of places k false) o cell in
@@ -241,8 +238,8 @@ module _ (places : List ℕ) where
           o lower (rw first at had) (key_weight-falls o k (omega arith)))
 
     -- Where both have one, the lighter stays.
-    pub lighter-stays : (a b : ℕ) → InsertedIs places k word (Word a) → InsertedIs places k (set_bit word k) (Word b)
-        → WithKeyIs places k (Word (lighter_of (k + 1) a b))
+    pub lighter-stays : (a b : ℕ) → InsertedIs places k word (Some a) → InsertedIs places k (set_bit word k) (Some b)
+        → WithKeyIs places k (Some (lighter_of (k + 1) a b))
     unfolding lighter_of with_choice
     lighter-stays a b first second = go (ltb (word_weight (k + 1) b) (word_weight (k + 1) a)) refl
       where
@@ -252,7 +249,7 @@ module _ (places : List ℕ) where
         other : LightestWordWith places k true b
         other = chosen-lightest true second
 
-        go : (t : Bool) → ltb (word_weight (k + 1) b) (word_weight (k + 1) a) ≡ t → WithKeyIs places k (Word (cond t b a))
+        go : (t : Bool) → ltb (word_weight (k + 1) b) (word_weight (k + 1) a) ≡ t → WithKeyIs places k (Some (cond t b a))
         go true e =
             let lt = rw (add-one k) at (ltb-true (word_weight (k + 1) b) (word_weight (k + 1) a) e) in
             let stays = lighter-lightest (entry_of places) key_weight k true (choice_in b) (choice_in a) in

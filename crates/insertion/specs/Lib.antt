@@ -1,4 +1,3 @@
-pub mod Answer
 pub mod Occupants
 pub mod OccupantsLaws
 pub mod Inserted

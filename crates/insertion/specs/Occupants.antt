@@ -1,6 +1,5 @@
 -- The occupants of the places, a cell for each place. Assumes nothing.
-use Rattle.std.specs.Prelude.{ℕ, ◌+◌, ◌<◌, ◌≡◌, List, eqb, length, get_or}
-use Rattle.std.proofs.Math.Option.{Option, none, some}
+use Rattle.std.specs.Prelude.{ℕ, ◌+◌, ◌<◌, ◌≡◌, List, eqb, length, get_or, Option, None, Some}
 use Rattle.refusal.specs.Limits.{group_max}
 use Rattle.lists.specs.First.{first}
 use Rattle.lists.specs.UpTo.{up_to}
@@ -9,8 +8,8 @@ use Rattle.places.specs.Array.{entry_of}
 
 -- A cell: one more than the index of the key that has the place; 0 where none has it.
 unfoldable pub cell_of : Option ℕ → ℕ
-cell_of none = 0
-cell_of (some i) = i + 1
+cell_of None = 0
+cell_of (Some i) = i + 1
 
 -- The place that key i takes under a word.
 abbrev pub place_taken : List ℕ → ℕ → ℕ → ℕ
@@ -26,8 +25,8 @@ occupants_of places word count = up_to group_max (λ v. cell_of (key_in places w
 
 -- The cells after key k: the occupants under the word that there is then; as they were before where there is none.
 unfoldable pub occupants_after : List ℕ → ℕ → List ℕ → Option ℕ → List ℕ
-occupants_after places k before (some word) = occupants_of places word (k + 1)
-occupants_after places k before none = before
+occupants_after places k before (Some word) = occupants_of places word (k + 1)
+occupants_after places k before None = before
 
 -- Such cells for keys of which no two take one place: at the place of key i stands i + 1, and nothing but 0 at a free place.
 pub record Occupied (places : List ℕ) (word count : ℕ) (cells : List ℕ) : Type 0 where

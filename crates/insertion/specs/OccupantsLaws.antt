@@ -1,11 +1,11 @@
 -- The laws of the cells of occupants: one key more at a free place, the same choices, and that they are `occupants_of`.
 -- Assumes nothing.
 use Prim.Native.Nat.{ℕ, zero, suc, ◌+◌, ◌-◌, ◌≤◌, ◌<◌}
-use Rattle.std.specs.Prelude.{◌≡◌, List, length, set, replicate}
+use Rattle.std.specs.Prelude.{◌≡◌, List, length, set, replicate, Option, None, Some}
 use Rattle.std.proofs.Math.Path.{refl, sym}
 use Rattle.std.proofs.Common.{◌∙◌, arith, length-set, get_or-set_same, get_or-set_other}
+use Rattle.std.proofs.lemmas.List.{get_or-replicate, length-replicate}
 use Rattle.std.proofs.Math.Bool.{Bool}
-use Rattle.std.proofs.Math.Option.{Option, none, some}
 use Rattle.std.proofs.Math.Decide.{ℕ_discrete, dec_lt}
 use Rattle.std.proofs.Math.Dec.{eqb}
 use Rattle.std.proofs.Math.ListN.{get_or, get_or-eq_default}
@@ -36,6 +36,10 @@ cleared-turn v cells lt old = record {
     go : (u : ℕ) → u < v + 1 → Dec (u ≡ v) → get_or (set cells v 0) u 0 ≡ 0
     go u lu (yes e) = rw e (get_or-set_same cells v 0 0 (omega (arith, old.size)))
     go u lu (no n) = get_or-set_other cells v u 0 0 n ∙ old.clear u (omega (arith, n))
+
+-- Cells of which each is 0.
+pub cleared_all : Cleared group_max (replicate group_max 0)
+cleared_all = record { size = length-replicate {A = ℕ} group_max 0; clear = λ u lt. get_or-replicate {A = ℕ} group_max u 0 0 lt }
 
 module _ (places : List ℕ) where
   -- No key: all cells are 0.
@@ -158,8 +162,8 @@ module _ (places : List ℕ) where
           omega (arith, apart j i (omega arith) lt z))))
 
       found : (v o : ℕ) (f : Option ℕ) → key_in places word count v ≡ f → cell_of f ≡ o + 1 → (o < count) × (place_taken places word o ≡ v)
-      found v o none e z = absurd (omega arith)
-      found v o (some i) e z =
+      found v o None e z = absurd (omega arith)
+      found v o (Some i) e z =
           let at = first_some (test v) count e in
           let same : i ≡ o = omega arith in
           rw (← same) (at.below, eqb-true (place_taken places word i) v at.holds)

@@ -1,7 +1,6 @@
 -- What weighted insertion leads to: the lightest word of the keys of an array is that of the sequence taken. Assumes nothing.
-use Rattle.std.specs.Prelude.{ℕ, ◌≤◌, ◌≡◌, refl, Bool, List, length}
+use Rattle.std.specs.Prelude.{ℕ, ◌≤◌, ◌≡◌, refl, Bool, List, length, Option, None, Some, option_map}
 use Rattle.std.proofs.Common.{sym, ◌∙◌, arith}
-use Rattle.std.proofs.Math.Option.{Option, none, some, map}
 use Rattle.lists.specs.UpTo.{up_to}
 use Rattle.filling.specs.Separate.{by_index, key_place, Separate}
 use Rattle.filling.proofs.FillingLaws.{separate-same, fills-apart}
@@ -25,7 +24,7 @@ module _ (places : List ℕ) (count : ℕ) where
 
   -- The lightest word of all keys is that of the sequence taken,
   pub lightest-word : (word : ℕ) → count ≤ 32 → LightestWord places count word
-      → some word ≡ map word_of (sequence_taken (keys_of count places))
+      → Some word ≡ option_map word_of (sequence_taken (keys_of count places))
   lightest-word word few light = rw (found, choices-word count word light.below)
     where
       listed : Lightest (key_place (keys_of count places)) key_weight count (by_index (choices_of count word))
@@ -34,20 +33,20 @@ module _ (places : List ℕ) (count : ℕ) where
           (choice_in word) (by_index (choices_of count word))
           (λ i lt b. sym (keys_of-place count places i lt b)) (λ i lt. choices_of-at count word i lt) light.lightest
 
-      found : sequence_taken (keys_of count places) ≡ some (choices_of count word)
+      found : sequence_taken (keys_of count places) ≡ Some (choices_of count word)
       found =
           lightest-taken (keys_of count places) (choices_of count word) (choices_of-length count word ∙ sym sized)
           (omega (arith, sized)) (rw sized listed)
 
   -- and the word of the sequence taken is the lightest.
-  pub word-lightest : (word : ℕ) → count ≤ 32 → some word ≡ map word_of (sequence_taken (keys_of count places))
+  pub word-lightest : (word : ℕ) → count ≤ 32 → Some word ≡ option_map word_of (sequence_taken (keys_of count places))
       → LightestWord places count word
   word-lightest word few = go (sequence_taken (keys_of count places)) refl
     where
-      go : (o : Option (List Bool)) → sequence_taken (keys_of count places) ≡ o → some word ≡ map word_of o
+      go : (o : Option (List Bool)) → sequence_taken (keys_of count places) ≡ o → Some word ≡ option_map word_of o
           → LightestWord places count word
-      go none e z = absurd (let n : ◌≡◌ {A = ℕ} 0 1 = cc in omega arith)
-      go (some cs) e z =
+      go None e z = absurd (let n : ◌≡◌ {A = ℕ} 0 1 = cc in omega arith)
+      go (Some cs) e z =
           let same : word ≡ word_of cs = cc in
           let whole : length cs ≡ count = (sequence-fills (keys_of count places) e).whole ∙ sized in
           rw same (record {
@@ -60,26 +59,26 @@ module _ (places : List ℕ) (count : ℕ) where
 
   -- Where nothing separates the keys there is none.
   pub nothing-word : ((f : ℕ → Bool) → Separate (entry_of places) count f → ⊥)
-      → none ≡ map word_of (sequence_taken (keys_of count places))
+      → None ≡ option_map word_of (sequence_taken (keys_of count places))
   nothing-word nothing = go (sequence_taken (keys_of count places)) refl
     where
-      go : (o : Option (List Bool)) → sequence_taken (keys_of count places) ≡ o → none ≡ map word_of o
-      go none e = refl
-      go (some cs) e =
+      go : (o : Option (List Bool)) → sequence_taken (keys_of count places) ≡ o → None ≡ option_map word_of o
+      go None e = refl
+      go (Some cs) e =
           let apart = rw sized at (fills-apart (keys_of count places) cs (sequence-fills (keys_of count places) e)) in
           absurd (nothing (by_index cs) (separate-same (λ i lt. keys_of-place count places i lt (by_index cs i)) apart))
 
 -- Where some keys have none, more keys have none.
-pub nothing-more : (places : List ℕ) (count more : ℕ) → count ≤ more → none ≡ map word_of (sequence_taken (keys_of count places))
-    → none ≡ map word_of (sequence_taken (keys_of more places))
+pub nothing-more : (places : List ℕ) (count more : ℕ) → count ≤ more → None ≡ option_map word_of (sequence_taken (keys_of count places))
+    → None ≡ option_map word_of (sequence_taken (keys_of more places))
 nothing-more places count more le nothing =
     nothing-word places more (λ f apart.
     go (sequence_taken (keys_of count places)) refl nothing f (λ i j li lj e. apart i j (omega arith) (omega arith) e))
   where
-    go : (o : Option (List Bool)) → sequence_taken (keys_of count places) ≡ o → none ≡ map word_of o
+    go : (o : Option (List Bool)) → sequence_taken (keys_of count places) ≡ o → None ≡ option_map word_of o
         → (f : ℕ → Bool) → Separate (entry_of places) count f → ⊥
-    go none e z f apart =
+    go None e z f apart =
         sequence-none (keys_of count places) e (up_to (length (keys_of count places)) f)
         (separate-fills (keys_of count places) f
         (rw (keys_of-length count places) (separate-same (λ i lt. sym (keys_of-place count places i lt (f i))) apart)))
-    go (some cs) e z f apart = let n : ◌≡◌ {A = ℕ} 0 1 = cc in omega arith
+    go (Some cs) e z f apart = let n : ◌≡◌ {A = ℕ} 0 1 = cc in omega arith

@@ -14,14 +14,10 @@ pub fn part_labels(places: &[u32; places::PLACE_CELLS], count: u32, labels: &mut
     requires { (count ≤ group_max) × Candidates places.now count × (length labels.old ≡ group_max) }
     ensures cells { labels.new ≡ labels_of group_max (keys_of count places.now) }
 {
-    let mut v = 0;
-    while v < MEMBER_CELLS {
-        labels[v] = v as u8;
-        v += 1;
+    for (v, label) in labels.iter_mut().enumerate() {
+        *label = v as u8;
     }
-    let mut i = count as usize;
-    while 0 < i {
-        i -= 1;
+    for i in (0..count as usize).rev() {
         let first = places[i] as usize;
         let second = places[MEMBER_CELLS + i] as usize;
         let into = labels[first];
@@ -35,10 +31,8 @@ fn merge(labels: &mut [u8; MEMBER_CELLS], into: u8, from: u8)
     requires { length labels.old ≡ group_max }
     ensures cells { labels.new ≡ map (merged into from) labels.old }
 {
-    let mut cell = 0;
-    while cell < MEMBER_CELLS {
-        labels[cell] = merged(labels[cell], into, from);
-        cell += 1;
+    for label in labels.iter_mut() {
+        *label = merged(*label, into, from);
     }
 }
 

@@ -1,7 +1,7 @@
 -- A line, and two fields, of a text: cut off, or there whole. Assumes nothing.
 use mathlib.Core.Path.{◌≡◌, refl}
 use mathlib.Core.List.{List}
-use mathlib.Core.Option.{Option, none, some}
+use Rattle.std.specs.Prelude.{Option, None, Some}
 use Prim.Native.Nat.{ℕ, suc, ◌+◌, ◌≤◌, ◌<◌}
 use native.Mathlib.Omega.{arith}
 use lib.ListN.{length, take, drop, length-take, length-drop}
@@ -20,22 +20,22 @@ module _ (bytes : List ℕ) (at : ℕ) (short : length bytes < at + line_length)
   abbrev cut : List ℕ
   cut = take line_length (drop at bytes)
 
-  pub pair-short : pair_of cut ≡ none
+  pub pair-short : pair_of cut ≡ None
   unfolding pair_of ended
   pair-short = rw (ended-short 10 cut (cut_off 10 bytes at short))
 
-  pub tag-short : tag_of cut ≡ none
+  pub tag-short : tag_of cut ≡ None
   unfolding tag_of ended
   tag-short = rw (ended-short 10 cut (cut_off 10 bytes at short))
 
 -- So are two fields of which it cuts the second off.
-second_none : (o : Option ℕ) → both_fields o none ≡ none
+second_none : (o : Option ℕ) → both_fields o None ≡ None
 unfolding both_fields
-second_none none = refl
-second_none (some a) = refl
+second_none None = refl
+second_none (Some a) = refl
 
 pub fields-short : (bytes : List ℕ) (at : ℕ) → length bytes < at + 10
-    → both_fields (field 5 (take 5 (drop at bytes))) (field 5 (take 5 (drop (at + 5) bytes))) ≡ none
+    → both_fields (field 5 (take 5 (drop at bytes))) (field 5 (take 5 (drop (at + 5) bytes))) ≡ None
 fields-short bytes at short =
     let last = field-other-length 5 (take 5 (drop (at + 5) bytes)) (cut_off 4 bytes (at + 5) (omega arith)) in
     rw last (second_none (field 5 (take 5 (drop at bytes))))

@@ -2,7 +2,7 @@
 use mathlib.Core.Path.{◌≡◌, sym, ◌∙◌}
 use mathlib.Core.Logic.{◌⊎◌, inl, inr}
 use mathlib.Core.List.{List}
-use mathlib.Core.Option.{none, some}
+use Rattle.std.specs.Prelude.{None, Some}
 use Prim.Native.Nat.{ℕ, ◌+◌, ◌-◌, ◌≤◌, ◌<◌}
 use native.Mathlib.Omega.{arith}
 use lib.ListN.{length, set}
@@ -20,16 +20,16 @@ pub record Examined (bytes : List ℕ) (from end : ℕ) (before cells : List ℕ
 
 pub examined-start : (bytes : List ℕ) (from end : ℕ) (before : List ℕ) → from ≤ end → Examined bytes from end before before from
 examined-start bytes from end before ascends =
-    let none : from - from ≡ 0 = omega arith in
+    let None : from - from ≡ 0 = omega arith in
     record {
       searched = searched-start (no_tag_from from bytes) from end ascends
           (first_out (no_tag_from from bytes) from (line_before from bytes));
-      cells_are = sym (rw none (stored-none from bytes before));
+      cells_are = sym (rw None (stored-none from bytes before));
     }
 
 -- The tag of line k goes into its cell, or there is none for it.
 pub examined-turn : {bytes : List ℕ} {from end : ℕ} {before cells after : List ℕ} {k t : ℕ} → Examined bytes from end before cells k
-    → k < end → tag_in (line_at k bytes) ≡ some t
+    → k < end → tag_in (line_at k bytes) ≡ Some t
     → ((k - from < length before) × (after ≡ set cells (k - from) t)) ⊎ ((length before ≤ k - from) × (after ≡ cells))
     → Examined bytes from end before after (k + 1)
 examined-turn {bytes} {from} {end} {before} {cells} {after} {k} {t} e lt reads came = record {
@@ -50,6 +50,6 @@ examined-turn {bytes} {from} {end} {before} {cells} {after} {k} {t} e lt reads c
 
 -- Line k is the first that is no tag's.
 pub examined-found : {bytes : List ℕ} {from end : ℕ} {before cells : List ℕ} {k : ℕ} → Examined bytes from end before cells k
-    → k < end → tag_in (line_at k bytes) ≡ none → first (no_tag_from from bytes) end ≡ some k
+    → k < end → tag_in (line_at k bytes) ≡ None → first (no_tag_from from bytes) end ≡ Some k
 examined-found {bytes} {from} {end} {before} {cells} {k} e lt reads =
     searched-found (no_tag_from from bytes) from end k e.searched lt (line-no-tag from bytes k e.searched.above reads)

@@ -5,133 +5,109 @@ ghost use Rattle.std.specs.Prelude.{◌≡◌, ◌+◌, ◌*◌, ◌≤◌, ltb,
 ghost use Rattle.lists.specs.First.{first};
 ghost use Rattle.lists.specs.Written.{written_at};
 ghost use Rattle.refusal.specs.Limits.{tag_end, tags_max};
-ghost use Rattle.refusal.specs.Answer.{first_meaning};
 ghost use Rattle.text.specs.Figure.{figure};
 ghost use Rattle.text.specs.Field.{field};
 ghost use Rattle.text.specs.Line.{line_length, pair_line, tag_line, both_fields, pair_of, tag_of, within, image_header, group_line};
 ghost use Rattle.text.specs.Line.{slot_line};
 ghost use Rattle.text.specs.Line.{list_header, list_line};
 ghost use Rattle.text.specs.TagLines.{no_tag_from, passed, tags_stored};
-ghost use Rattle.text.specs.Answer.{pair_meaning, tag_meaning};
 
-use refusal::{First, TAG_CELLS};
-use text::{LINE_LENGTH, Pair, Tag};
+use refusal::TAG_CELLS;
+use text::LINE_LENGTH;
 
 // The line at a byte of the text, two fields or one tag. A line that the text cuts off is malformed.
-fn read_pair(bytes: &[u8], at: usize) -> Pair
-    ensures answer { pair_meaning result ≡ pair_of (take line_length (drop at bytes.now)) }
+fn read_pair(bytes: &[u8], at: usize) -> Option<(u32, u32)>
+    ensures answer { result ≡ pair_of (take line_length (drop at bytes.now)) }
 {
-    if bytes.len() < LINE_LENGTH {
-        return Pair::Malformed;
-    }
-    if bytes.len() - LINE_LENGTH < at {
-        return Pair::Malformed;
-    }
-    let end = at + LINE_LENGTH;
-    text::pair_in(&bytes[at..end])
+    text::pair_in(text::part(bytes, at, LINE_LENGTH)?)
 }
 
-fn read_tag(bytes: &[u8], at: usize) -> Tag
-    ensures answer { tag_meaning result ≡ within (λ t. ltb t tag_end) (tag_of (take line_length (drop at bytes.now))) }
+fn read_tag(bytes: &[u8], at: usize) -> Option<u32>
+    ensures answer { result ≡ within (λ t. ltb t tag_end) (tag_of (take line_length (drop at bytes.now))) }
 {
-    if bytes.len() < LINE_LENGTH {
-        return Tag::Malformed;
-    }
-    if bytes.len() - LINE_LENGTH < at {
-        return Tag::Malformed;
-    }
-    let end = at + LINE_LENGTH;
-    text::tag_in(&bytes[at..end])
+    text::tag_in(text::part(bytes, at, LINE_LENGTH)?)
 }
 
 // The two fields of five columns at a byte of the text, without a line feed behind them. Fields that the text cuts off are malformed.
-pub fn read_two_fields(bytes: &[u8], at: usize) -> Pair
-    ensures answer { pair_meaning result ≡ both_fields
+pub fn read_two_fields(bytes: &[u8], at: usize) -> Option<(u32, u32)>
+    ensures answer { result ≡ both_fields
         (field 5 (take 5 (drop at bytes.now))) (field 5 (take 5 (drop (at + 5) bytes.now))) }
 {
-    if bytes.len() < 10 {
-        return Pair::Malformed;
-    }
-    if bytes.len() - 10 < at {
-        return Pair::Malformed;
-    }
-    let end = at + 10;
-    text::fields_in(&bytes[at..end])
+    text::fields_in(text::part(bytes, at, 10)?)
 }
 
 // The first line from line `from` on, before line `end`, that is no tag's. The tags of the lines before it are stored, as many as
 // there are cells; the lines after those are examined all the same.
-pub fn read_tag_lines(bytes: &[u8], from: usize, end: usize, cells: &mut [u32; TAG_CELLS]) -> First
+pub fn read_tag_lines(
+    bytes: &[u8],
+    from: usize,
+    end: usize,
+    cells: &mut [u32; TAG_CELLS],
+) -> Option<usize>
     requires from_le_end { (from ≤ end) × (line_length * end ≤ length bytes.now) }
     requires cells_len { length cells.old ≡ tags_max }
-    ensures answer { first_meaning result ≡ first (no_tag_from from bytes.now) end }
+    ensures answer { result ≡ first (no_tag_from from bytes.now) end }
     ensures cells { cells.new
-        ≡ tags_stored (passed (first_meaning result) from end) from bytes.now cells.old }
+        ≡ tags_stored (passed result from end) from bytes.now cells.old }
 {
-    let mut k = from;
-    while k < end {
+    for k in from..end {
         let at = LINE_LENGTH * k;
         let after = at + LINE_LENGTH;
-        let Tag::Number(t) = text::tag_in(&bytes[at..after]) else {
-            return First::At(k);
+        let Some(t) = text::tag_in(&bytes[at..after]) else {
+            return Some(k);
         };
         if k - from < TAG_CELLS {
             cells[k - from] = t;
         }
-        k += 1;
     }
-    First::Nowhere
+    None
 }
 
 // Line 0 of an image: N, at most 4,096, and B, 1 to 512.
-pub fn read_image_header(bytes: &[u8], at: usize) -> Pair
-    ensures answer { pair_meaning result ≡ image_header (take line_length (drop at bytes.now)) }
+pub fn read_image_header(bytes: &[u8], at: usize) -> Option<(u32, u32)>
+    ensures answer { result ≡ image_header (take line_length (drop at bytes.now)) }
 {
-    let Pair::Numbers(n, b) = read_pair(bytes, at) else {
-        return Pair::Malformed;
-    };
+    let (n, b) = read_pair(bytes, at)?;
     if refusal::TAGS_MAX < n as usize {
-        return Pair::Malformed;
+        return None;
     }
     if b < 1 {
-        return Pair::Malformed;
+        return None;
     }
     if refusal::GROUPS_MAX < b {
-        return Pair::Malformed;
+        return None;
     }
-    Pair::Numbers(n, b)
+    Some((n, b))
 }
 
 // A group's line: its start, and its seed, at most 65,535.
-pub fn read_group_line(bytes: &[u8], at: usize) -> Pair
-    ensures answer { pair_meaning result ≡ group_line (take line_length (drop at bytes.now)) }
+pub fn read_group_line(bytes: &[u8], at: usize) -> Option<(u32, u32)>
+    ensures answer { result ≡ group_line (take line_length (drop at bytes.now)) }
 {
-    let Pair::Numbers(start, seed) = read_pair(bytes, at) else {
-        return Pair::Malformed;
-    };
+    let (start, seed) = read_pair(bytes, at)?;
     if refusal::SEED_MAX < seed {
-        return Pair::Malformed;
+        return None;
     }
-    Pair::Numbers(start, seed)
+    Some((start, seed))
 }
 
 // A slot's line: its tag.
-pub fn read_slot_line(bytes: &[u8], at: usize) -> Tag
-    ensures answer { tag_meaning result ≡ slot_line (take line_length (drop at bytes.now)) }
+pub fn read_slot_line(bytes: &[u8], at: usize) -> Option<u32>
+    ensures answer { result ≡ slot_line (take line_length (drop at bytes.now)) }
 {
     read_tag(bytes, at)
 }
 
 // Line 0 of a list text: B and L, in any range that five columns hold.
-pub fn read_list_header(bytes: &[u8], at: usize) -> Pair
-    ensures answer { pair_meaning result ≡ list_header (take line_length (drop at bytes.now)) }
+pub fn read_list_header(bytes: &[u8], at: usize) -> Option<(u32, u32)>
+    ensures answer { result ≡ list_header (take line_length (drop at bytes.now)) }
 {
     read_pair(bytes, at)
 }
 
 // A later line of a list text: its tag.
-pub fn read_list_line(bytes: &[u8], at: usize) -> Tag
-    ensures answer { tag_meaning result ≡ list_line (take line_length (drop at bytes.now)) }
+pub fn read_list_line(bytes: &[u8], at: usize) -> Option<u32>
+    ensures answer { result ≡ list_line (take line_length (drop at bytes.now)) }
 {
     read_tag(bytes, at)
 }

@@ -1,7 +1,6 @@
 -- Each way in which reading ends, the tags line by line, and that reading a list text gives back what it states. Assumes nothing.
-use Rattle.std.specs.Prelude.{◌≡◌, refl, true, false, not, ◌||◌, List, ℕ, zero, suc, ◌%◌, ◌≤◌, ◌<◌, eqb, ltb, length}
+use Rattle.std.specs.Prelude.{◌≡◌, refl, true, false, not, ◌||◌, List, ℕ, zero, suc, ◌%◌, ◌≤◌, ◌<◌, eqb, ltb, length, Option, None, Some}
 use Rattle.std.proofs.Common.{sym, ◌∙◌, ap, arith}
-use Rattle.std.proofs.Math.Option.{Option, none, some}
 use borrow.Author.Tests.{le-leb, lt-ltb, le-ltb, ltb-false, ne_eqb}
 use Rattle.refusal.specs.Limits.{tags_max}
 use Rattle.refusal.specs.Outcome.{answered, refused, answered_by}
@@ -14,18 +13,19 @@ use Rattle.text.specs.Line.{line_length, line_at, list_header, list_line}
 use Rattle.text.specs.TagLines.{no_tag_from, tags_on}
 use Rattle.text.proofs.TagLinesLaws.{tag-list, line_before, tags_on-length}
 use Rattle.list.specs.Reading.{malformed, line_count, tag_count, tags_from, listed_in, reading_checks, reading_of}
-use Rattle.list.specs.Answer.{ListHead, head_of}
+use Rattle.list.specs.Answer.{head_of}
+use Rattle.list.specs.declared.ListHead.{ListHead}
 
 -- A line by what it reads as.
-pub header-well : (text : List ℕ) {h : ℕ × ℕ} → list_header (line_at 0 text) ≡ some h → malformed text 0 ≡ false
+pub header-well : (text : List ℕ) {h : ℕ × ℕ} → list_header (line_at 0 text) ≡ Some h → malformed text 0 ≡ false
 unfolding malformed is_some
 header-well text e = rw e
 
-pub header-malformed : (text : List ℕ) → list_header (line_at 0 text) ≡ none → malformed text 0 ≡ true
+pub header-malformed : (text : List ℕ) → list_header (line_at 0 text) ≡ None → malformed text 0 ≡ true
 unfolding malformed is_some
 header-malformed text e = rw e
 
-pub line-well : (text : List ℕ) (k : ℕ) {t : ℕ} → 0 < k → list_line (line_at k text) ≡ some t → malformed text k ≡ false
+pub line-well : (text : List ℕ) (k : ℕ) {t : ℕ} → 0 < k → list_line (line_at k text) ≡ Some t → malformed text k ≡ false
 unfolding malformed is_some
 line-well text zero lt e = absurd (omega arith)
 line-well text (suc k) lt e = rw e
@@ -36,7 +36,7 @@ unfolding no_tag_from malformed
 malformed-tag text well zero = line_before 1 text 0 (omega arith) ∙ sym well
 malformed-tag text well (suc k) = rw (le-leb 1 (suc k) (omega arith), tag-list (line_at (suc k) text))
 
-pub malformed-lines : (text : List ℕ) {h : ℕ × ℕ} → list_header (line_at 0 text) ≡ some h → (limit : ℕ) {o : Option ℕ}
+pub malformed-lines : (text : List ℕ) {h : ℕ × ℕ} → list_header (line_at 0 text) ≡ Some h → (limit : ℕ) {o : Option ℕ}
     → o ≡ first (no_tag_from 1 text) limit → first (malformed text) limit ≡ o
 malformed-lines text header limit e =
     sym (e ∙ first_cong (no_tag_from 1 text) (malformed text) limit (λ j lt. malformed-tag text (header-well text header) j))
@@ -69,7 +69,7 @@ module _ (text : List ℕ) (cells : ℕ) where
     not_short : (ltb (length text) line_length || not (eqb (length text % line_length) 0)) ≡ false
     not_short = rw (le-ltb (length text) line_length whole.long, whole.even)
 
-    pub read-malformed : {k : ℕ} → first (malformed text) (line_count text) ≡ some k → reading_of text cells ≡ refused 16 k
+    pub read-malformed : {k : ℕ} → first (malformed text) (line_count text) ≡ Some k → reading_of text cells ≡ refused 16 k
     unfolding reading_of reading_checks in_order met met_at
     read-malformed e = rw (not_short, e)
 
@@ -77,7 +77,7 @@ module _ (text : List ℕ) (cells : ℕ) where
     unfolding line_count
     read-header-malformed e = read-malformed (first-zero (malformed text) (line_count text) e (omega (arith, whole.long)))
 
-    module _ (well : first (malformed text) (line_count text) ≡ none) where
+    module _ (well : first (malformed text) (line_count text) ≡ None) where
       pub read-many : tags_max < tag_count text → reading_of text cells ≡ refused 5 0
       unfolding reading_of reading_checks in_order met met_at
       read-many many = rw (not_short, well, lt-ltb tags_max (tag_count text) many)
@@ -92,7 +92,7 @@ module _ (text : List ℕ) (cells : ℕ) where
         read-answered wide = rw (not_short, well, le-ltb tags_max (tag_count text) few, le-ltb cells (tag_count text) wide)
 
 -- What an accepted reading answers beside the tags.
-pub head-is : (text : List ℕ) {b l : ℕ} → list_header (line_at 0 text) ≡ some (b, l)
+pub head-is : (text : List ℕ) {b l : ℕ} → list_header (line_at 0 text) ≡ Some (b, l)
     → head_of (listed_in text) ≡ record { groups = b; limit = l; count = tag_count text }
 unfolding head_of listed_in
 head-is text e = rw (e, tags_from-length (tag_count text) 1 text)

@@ -1,8 +1,7 @@
 -- Reading the text that states B, L and the tags gives them back. Assumes nothing.
-use Rattle.std.specs.Prelude.{◌≡◌, refl, false, length, get_or}
+use Rattle.std.specs.Prelude.{◌≡◌, refl, false, length, get_or, Some}
 use Rattle.std.proofs.Common.{◌∙◌}
 use mathlib.Core.List.{List, [], ◌∷◌, map}
-use Rattle.std.proofs.Math.Option.{some}
 use Prim.Native.Nat.{ℕ, zero, suc, ◌+◌, ◌*◌, ◌^◌, ◌≤◌, ◌<◌}
 use native.Mathlib.Omega.{arith}
 use Rattle.std.proofs.Math.ListN.{length-map}
@@ -27,7 +26,7 @@ tag-line-at (t ∷ ts) zero lt = refl
 tag-line-at (t ∷ ts) (suc i) lt = tag-line-at ts i (omega arith)
 
 -- Tags read from line k on, where each of those lines reads as the tag with its index.
-tags-from : (tags text : List ℕ) (k : ℕ) → ((i : ℕ) → i < length tags → list_line (line_at (k + i) text) ≡ some (get_or tags i 0))
+tags-from : (tags text : List ℕ) (k : ℕ) → ((i : ℕ) → i < length tags → list_line (line_at (k + i) text) ≡ Some (get_or tags i 0))
     → tags_from (length tags) k text ≡ tags
 unfolding tags_from
 tags-from [] text k reads = refl
@@ -48,11 +47,11 @@ module _ (b l : ℕ) (tags : List ℕ) (b-fits : b < 10 ^ 5) (l-fits : l < 10 ^ 
   unfolding text_of
   text-length = flatten-length line_length (pair_line b l ∷ map tag_line tags) text-lines ∙ omega (arith, length-map tags tag_line)
 
-  header-reads : list_header (line_at 0 (text_of b l tags)) ≡ some (b, l)
+  header-reads : list_header (line_at 0 (text_of b l tags)) ≡ Some (b, l)
   unfolding text_of
   header-reads = rw (line-flatten (pair_line b l ∷ map tag_line tags) 0 text-lines (omega arith)) (list-header-line b l b-fits l-fits)
 
-  tag-reads : (i : ℕ) → i < length tags → list_line (line_at (1 + i) (text_of b l tags)) ≡ some (get_or tags i 0)
+  tag-reads : (i : ℕ) → i < length tags → list_line (line_at (1 + i) (text_of b l tags)) ≡ Some (get_or tags i 0)
   unfolding text_of
   tag-reads i lt =
       let e : 1 + i ≡ suc i = omega arith in

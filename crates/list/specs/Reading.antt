@@ -1,6 +1,5 @@
 -- The operation "reading a list". Assumes nothing.
-use Rattle.std.specs.Prelude.{ℕ, zero, suc, ◌-◌, ◌/◌, ◌%◌, Bool, not, ◌||◌, List, [], ◌∷◌, ◌++◌, eqb, ltb, length, drop}
-use Rattle.std.proofs.Math.Option.{get_or}
+use Rattle.std.specs.Prelude.{ℕ, zero, suc, ◌-◌, ◌/◌, ◌%◌, Bool, not, ◌||◌, List, [], ◌∷◌, ◌++◌, eqb, ltb, length, drop, unwrap_or}
 use Rattle.refusal.specs.Limits.{tags_max}
 use Rattle.refusal.specs.Outcome.{Outcome, answered, refused}
 use Rattle.lists.specs.First.{first, is_some}
@@ -28,11 +27,11 @@ tag_count text = line_count text - 1
 -- The tags of lines k and on, so many of them. A malformed line, which is refused, stands for 0.
 unfoldable pub tags_from : ℕ → ℕ → List ℕ → List ℕ
 tags_from zero k text = []
-tags_from (suc count) k text = get_or (list_line (line_at k text)) 0 ∷ tags_from count (suc k) text
+tags_from (suc count) k text = unwrap_or (list_line (line_at k text)) 0 ∷ tags_from count (suc k) text
 
 unfoldable pub listed_in : List ℕ → Listed
 listed_in text =
-    let header = get_or (list_header (line_at 0 text)) (0, 0) in
+    let header = unwrap_or (list_header (line_at 0 text)) (0, 0) in
     record { groups = header.0; limit = header.1; tags = tags_from (tag_count text) 1 text }
 
 -- "16 at place 0: fewer than 11 bytes, or not a multiple of 11. 16: first malformed line. 5: more than 4,096 tags. 9: too few tag

@@ -1,8 +1,8 @@
 -- What a test made of tests says of each, and an answer under a test of both. Assumes nothing.
-use Rattle.std.specs.Prelude.{◌≡◌, refl, ◌⊎◌, Bool, true, false, cond, ◌&&◌, ◌||◌}
+use Rattle.std.specs.Prelude.{◌≡◌, refl, ◌⊎◌, Bool, true, false, cond, ◌&&◌, ◌||◌, Option, None, Some}
 use Rattle.std.proofs.Common.{inl, inr, true≢false}
 use Rattle.std.proofs.lemmas.Bool.{false≢true}
-use Rattle.std.proofs.Math.Option.{Option, none, some, none-ne-some}
+use Rattle.std.proofs.lemmas.Option.{none-some}
 
 -- Both hold where their conjunction does.
 pub both-of-and : (a b : Bool) → (a && b) ≡ true → (a ≡ true) × (b ≡ true)
@@ -25,6 +25,6 @@ decided true = inl refl
 decided false = inr refl
 
 -- Where there is an answer under a test, the test holds.
-pub some-of-cond : {A : Type 0} (test : Bool) (o : Option A) {a : A} → cond test o none ≡ some a → (test ≡ true) × (o ≡ some a)
+pub some-of-cond : {A : Type 0} (test : Bool) (o : Option A) {a : A} → cond test o None ≡ Some a → (test ≡ true) × (o ≡ Some a)
 some-of-cond true o e = (refl, e)
-some-of-cond false o {a} e = absurd (none-ne-some a e)
+some-of-cond false o {a} e = absurd (none-some a e)

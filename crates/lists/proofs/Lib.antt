@@ -4,3 +4,4 @@ pub mod OccursLaws
 pub mod SearchLaws
 pub mod UpToLaws
 pub mod WrittenLaws
+pub mod PositionLaws

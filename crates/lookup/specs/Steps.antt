@@ -1,6 +1,5 @@
 -- The steps of a lookup behind the opening checks. Assumes nothing.
-use Rattle.std.specs.Prelude.{ℕ, zero, suc, ◌+◌, ◌-◌, cond, eqb, ltb}
-use Rattle.std.proofs.Math.Option.{Option, some, map}
+use Rattle.std.specs.Prelude.{ℕ, zero, suc, ◌+◌, ◌-◌, cond, eqb, ltb, Option, Some, option_map}
 use Rattle.refusal.specs.Outcome.{Outcome, answered}
 use Rattle.refusal.specs.Checks.{in_order}
 use Rattle.hash.specs.Formula.{place_of}
@@ -9,7 +8,7 @@ use Rattle.image.specs.Lookup.{Found, unknown, group_checks, at_slot}
 
 -- Where group g ends, read from the next group's line if there is one; none where that line is malformed.
 unfoldable pub end_of : View → ℕ → Option ℕ
-end_of v g = cond (ltb (suc g) (groups_in v)) (map (λ h. h.0) (v.group_at (suc (suc g)))) (some (count_in v))
+end_of v g = cond (ltb (suc g) (groups_in v)) (option_map (λ h. h.0) (v.group_at (suc (suc g)))) (Some (count_in v))
 
 -- The slots looked at, for a group from `start` up to `end` with this seed.
 unfoldable pub slots_of : View → ℕ → ℕ → ℕ → ℕ → Outcome Found

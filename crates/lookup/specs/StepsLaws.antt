@@ -1,8 +1,7 @@
 -- Each step of a lookup, by what the lines read as. Assumes nothing.
-use Rattle.std.specs.Prelude.{◌≡◌, true, false, ◌||◌, List, ltb}
+use Rattle.std.specs.Prelude.{◌≡◌, true, false, ◌||◌, List, ltb, Option, None, Some, option_map}
 use Rattle.std.proofs.Math.Path.{refl, ap}
 use Rattle.std.proofs.Common.{◌∙◌}
-use Rattle.std.proofs.Math.Option.{Option, none, some, map}
 use Prim.Native.Nat.{ℕ, zero, suc, ◌+◌, ◌-◌, ◌≤◌, ◌<◌}
 use native.Mathlib.Omega.{arith}
 use borrow.Author.Tests.{eq-eqb, ne_eqb}
@@ -25,12 +24,12 @@ use Rattle.lookup.specs.GroupLaws.{own-refused, next-refused, fault-refused, gro
 
 module _ (image : List ℕ) where
   -- Where a group ends.
-  pub end-of-last : {count groups : ℕ} → Opens image count groups → (g : ℕ) → suc g ≡ groups → end_of (view_of image) g ≡ some count
+  pub end-of-last : {count groups : ℕ} → Opens image count groups → (g : ℕ) → suc g ≡ groups → end_of (view_of image) g ≡ Some count
   end-of-last opens g last = rw (← opens.count-is) (end-at-count (view_of image) g (omega (arith, opens.groups-is)))
 
   pub end-of-next : {count groups : ℕ} → Opens image count groups → (g : ℕ)
       → suc g < groups → (o : Option (ℕ × ℕ)) → group_line (line_at (suc (suc g)) image) ≡ o
-      → end_of (view_of image) g ≡ map (λ h. h.0) o
+      → end_of (view_of image) g ≡ option_map (λ h. h.0) o
   unfolding view_of
   end-of-next opens g lt o e = end-at-next (view_of image) g (omega (arith, opens.groups-is)) e
 
@@ -40,15 +39,15 @@ module _ (image : List ℕ) where
     unfolding slot_line_in
     line_of = rw same
 
-    pub slot-malformed : slot_line (line_at (1 + groups + j) image) ≡ none → at_slot (view_of image) t j next ≡ refused 12 (1 + groups + j)
+    pub slot-malformed : slot_line (line_at (1 + groups + j) image) ≡ None → at_slot (view_of image) t j next ≡ refused 12 (1 + groups + j)
     unfolding at_slot in_order met_at is_some view_of
     slot-malformed e = rw (line_of, e)
 
-    pub slot-holds : slot_line (line_at (1 + groups + j) image) ≡ some t → at_slot (view_of image) t j next ≡ answered (number j)
+    pub slot-holds : slot_line (line_at (1 + groups + j) image) ≡ Some t → at_slot (view_of image) t j next ≡ answered (number j)
     unfolding at_slot in_order met_at is_some slot_in view_of
     slot-holds e = rw (line_of, e, eq-eqb t t refl)
 
-    pub slot-other : {u : ℕ} → slot_line (line_at (1 + groups + j) image) ≡ some u → (u ≡ t → ⊥) → at_slot (view_of image) t j next ≡ next
+    pub slot-other : {u : ℕ} → slot_line (line_at (1 + groups + j) image) ≡ Some u → (u ≡ t → ⊥) → at_slot (view_of image) t j next ≡ next
     unfolding at_slot in_order met_at is_some slot_in view_of
     slot-other {u} e other = rw (line_of, e, ne_eqb u t other)
 
@@ -81,20 +80,20 @@ module _ (image : List ℕ) where
 
   -- The group's lines, its fault, its slots.
   module _ (t g line : ℕ) (at : line ≡ suc g) where
-    pub own-malformed : group_line (line_at line image) ≡ none → group_outcome (view_of image) t g ≡ refused 12 line
+    pub own-malformed : group_line (line_at line image) ≡ None → group_outcome (view_of image) t g ≡ refused 12 line
     unfolding group_outcome view_of
     own-malformed e = rw at (own-refused (view_of image) g _ (rw at at e))
 
-    module _ (start seed : ℕ) (own' : group_line (line_at line image) ≡ some (start, seed)) where
-      own : (view_of image).group_at (suc g) ≡ some (start, seed)
+    module _ (start seed : ℕ) (own' : group_line (line_at line image) ≡ Some (start, seed)) where
+      own : (view_of image).group_at (suc g) ≡ Some (start, seed)
       unfolding view_of
       own = rw at at own'
 
-      pub next-malformed : end_of (view_of image) g ≡ none → group_outcome (view_of image) t g ≡ refused 12 (line + 1)
+      pub next-malformed : end_of (view_of image) g ≡ None → group_outcome (view_of image) t g ≡ refused 12 (line + 1)
       unfolding group_outcome
       next-malformed e = let after : line + 1 ≡ suc (suc g) = omega arith in rw after (next-refused (view_of image) g _ own e)
 
-      module _ (end : ℕ) (ends : end_of (view_of image) g ≡ some end) where
+      module _ (end : ℕ) (ends : end_of (view_of image) g ≡ Some end) where
         -- The group is faulty, ends past N, or its slots are looked at.
         pub group-faulty : (faulty g start end || ltb (count_in (view_of image)) end) ≡ true
             → group_outcome (view_of image) t g ≡ refused 13 g

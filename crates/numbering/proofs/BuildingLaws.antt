@@ -1,10 +1,9 @@
 -- The ways in which building ends, in the order of the checks of its two calls, and what it leaves in the buffer. Assumes nothing.
 use Rattle.std.proofs.Math.Path.{◌≡◌, refl, sym}
 use Rattle.std.proofs.Common.{◌∙◌, arith}
-use Rattle.std.specs.Prelude.{Bool, length, drop}
+use Rattle.std.specs.Prelude.{Bool, length, drop, None, Some}
 use Rattle.std.proofs.Math.Bool.{true, false}
 use mathlib.Core.List.{List, [], ◌∷◌, ◌++◌}
-use Rattle.std.proofs.Math.Option.{none, some}
 use Prim.Native.Nat.{ℕ, ◌≤◌, ◌<◌}
 use Rattle.std.proofs.Math.Dec.{ltb}
 use borrow.Author.Tests.{ltb-true, ltb-false, lt-ltb, le-ltb}
@@ -88,17 +87,17 @@ module _ (tags : List ℕ) (groups limit : ℕ) where
 
   module _ (room : ℕ) where
     -- A check before 7 that is met where those before it pass is building's refusal;
-    pub building-refused : (number : ℕ) {place : ℕ} → Pass (checks_before number earlier) → met_by earlier number ≡ some place
+    pub building-refused : (number : ℕ) {place : ℕ} → Pass (checks_before number earlier) → met_by earlier number ≡ Some place
         → building_of tags groups limit room ≡ refused number place
     building-refused number passes e = building-unplanned room (planning-refused tags groups limit number passes e)
 
     -- where they pass, 7 is next, and then 9.
     module _ (passes : Pass earlier) where
-      pub building-seedless : {g : ℕ} → first (seedless groups tags limit) groups ≡ some g
+      pub building-seedless : {g : ℕ} → first (seedless groups tags limit) groups ≡ Some g
           → building_of tags groups limit room ≡ refused 7 g
       building-seedless e = building-unplanned room (planning-seedless tags groups limit passes e)
 
-      module _ (every : first (seedless groups tags limit) groups ≡ none) where
+      module _ (every : first (seedless groups tags limit) groups ≡ None) where
         pub building-answered : image_length groups (length tags) ≤ room
             → building_of tags groups limit room ≡ answered (image_length groups (length tags))
         unfolding in_order
@@ -111,7 +110,7 @@ module _ (tags : List ℕ) (groups limit : ℕ) where
             building-planned room (planning-answered tags groups limit passes every) ∙ rw (met-true (lt-ltb room _ short))
 
     -- A refusal 7 is planning's, since no other check has its number.
-    pub building-seven : {g : ℕ} → building_of tags groups limit room ≡ refused 7 g → first (seedless groups tags limit) groups ≡ some g
+    pub building-seven : {g : ℕ} → building_of tags groups limit room ≡ refused 7 g → first (seedless groups tags limit) groups ≡ Some g
     unfolding planning_checks earlier_checks
     building-seven e =
         let whole = planning_checks tags groups limit ++ room_check groups tags room ∷ [] in

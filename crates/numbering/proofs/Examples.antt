@@ -1,7 +1,7 @@
 -- The order of the refusals of planning and of writing, each where the next one is due too, by computation; of 10 and 7,
 -- `PlanningLaws.seven-decides` says it, and of building's 7 and 9 `BuildingLaws.building-in-order`. Assumes nothing.
 use Rattle.std.specs.Prelude.{◌≡◌, refl, List, [], ◌∷◌, ℕ, suc, replicate}
-use Rattle.std.proofs.Math.Option.{or_else}
+use Rattle.std.specs.Option.{option_or}
 use Rattle.refusal.specs.Limits.{tags_max, group_max, outside}
 use Rattle.refusal.specs.Outcome.{refused, followed_by}
 use Rattle.lists.specs.First.{first, met_at}
@@ -19,7 +19,7 @@ use Rattle.numbering.specs.Building.{building_of}
 
 -- `unfolding computed` opens every definition that these compute through.
 computed : ℕ
-unfolding or_else outside followed_by first met_at up_to met in_order product high_part hashed group_of select members not_above
+unfolding outside followed_by first met_at up_to met in_order product high_part hashed group_of select members not_above
     starts_unwired image_length plan_of planned_groups planned_seed earlier_checks planning_checks planning_of writing_checks
     writing_of building_of
 computed = 0

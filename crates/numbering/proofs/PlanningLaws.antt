@@ -1,8 +1,7 @@
 -- The ways in which planning ends, in the order of its checks, and what it yields. Assumes nothing.
-use Rattle.std.specs.Prelude.{◌≡◌, false, List, [], ◌∷◌, ℕ, ◌≤◌, length}
+use Rattle.std.specs.Prelude.{◌≡◌, false, List, [], ◌∷◌, ℕ, ◌≤◌, length, None, Some}
 use Rattle.std.proofs.Math.Path.{refl}
 use Rattle.std.proofs.Common.{◌∙◌}
-use Rattle.std.proofs.Math.Option.{none, some}
 use borrow.Author.Tests.{ltb-false, not-false}
 use Rattle.refusal.specs.Limits.{tags_max, groups_max}
 use Rattle.refusal.proofs.LimitsLaws.{inside}
@@ -25,7 +24,7 @@ module _ (tags : List ℕ) (groups limit : ℕ) where
   earlier = earlier_checks tags groups limit
 
   -- A check before 7 that is met where those before it pass is planning's refusal.
-  pub planning-refused : (number : ℕ) {place : ℕ} → Pass (checks_before number earlier) → met_by earlier number ≡ some place
+  pub planning-refused : (number : ℕ) {place : ℕ} → Pass (checks_before number earlier) → met_by earlier number ≡ Some place
       → planning_of tags groups limit ≡ refused number place
   unfolding planning_of planning_checks
   planning-refused number passes e = in_order-append earlier _ _ ∙ met-first earlier _ number passes e
@@ -36,17 +35,17 @@ module _ (tags : List ℕ) (groups limit : ℕ) where
   seven-decides passes = in_order-append earlier _ _ ∙ in_order-pass earlier _ passes
 
   module _ (passes : Pass earlier) where
-    pub planning-seedless : {g : ℕ} → first (seedless groups tags limit) groups ≡ some g → planning_of tags groups limit ≡ refused 7 g
+    pub planning-seedless : {g : ℕ} → first (seedless groups tags limit) groups ≡ Some g → planning_of tags groups limit ≡ refused 7 g
     unfolding in_order
     planning-seedless e = seven-decides passes ∙ rw e
 
-    pub planning-answered : first (seedless groups tags limit) groups ≡ none → planning_of tags groups limit ≡ answered groups
+    pub planning-answered : first (seedless groups tags limit) groups ≡ None → planning_of tags groups limit ≡ answered groups
     unfolding in_order
     planning-answered e = seven-decides passes ∙ rw e
 
   -- An answer says that the checks before 7 pass and that every group has a seed, and it is B.
   pub planning-says : {planned : ℕ} → planning_of tags groups limit ≡ answered planned
-      → Pass earlier × (first (seedless groups tags limit) groups ≡ none) × (groups ≡ planned)
+      → Pass earlier × (first (seedless groups tags limit) groups ≡ None) × (groups ≡ planned)
   unfolding planning_of planning_checks
   planning-says e =
       let (passes, answer) = in_order-answered (planning_checks tags groups limit) (answered groups) e in
@@ -54,7 +53,7 @@ module _ (tags : List ℕ) (groups limit : ℕ) where
       (front, back.0, cc)
 
   -- A refusal 7 comes from the last check, since no earlier one has its number.
-  pub planning-seven : {g : ℕ} → planning_of tags groups limit ≡ refused 7 g → first (seedless groups tags limit) groups ≡ some g
+  pub planning-seven : {g : ℕ} → planning_of tags groups limit ≡ refused 7 g → first (seedless groups tags limit) groups ≡ Some g
   unfolding planning_of planning_checks earlier_checks
   planning-seven e =
       let met = in_order-refused (planning_checks tags groups limit) groups e in

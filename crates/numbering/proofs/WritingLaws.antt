@@ -1,8 +1,7 @@
 -- The ways in which writing ends, what it leaves in the buffer, and writing behind a planning that yielded its plan. Assumes nothing.
-use Rattle.std.specs.Prelude.{◌≡◌, true, List, [], ◌∷◌, ◌++◌, ℕ, ◌≤◌, ◌<◌, length, drop}
+use Rattle.std.specs.Prelude.{◌≡◌, true, List, [], ◌∷◌, ◌++◌, ℕ, ◌≤◌, ◌<◌, length, drop, None, Some}
 use Rattle.std.proofs.Math.Path.{refl, sym}
 use Rattle.std.proofs.Common.{◌∙◌, arith}
-use Rattle.std.proofs.Math.Option.{none, some}
 use borrow.Author.Tests.{ltb-false, le-ltb, not-false}
 use Rattle.refusal.specs.Limits.{tags_max, groups_max, group_max, limit_max, seed_max}
 use Rattle.refusal.proofs.LimitsLaws.{inside}
@@ -59,7 +58,7 @@ module _ (tags plan : List ℕ) (room : ℕ) where
   checks = writing_checks tags plan room
 
   -- A check that is met where those before it pass is writing's refusal.
-  pub writing-refused : (number : ℕ) {place : ℕ} → Pass (checks_before number checks) → met_by checks number ≡ some place
+  pub writing-refused : (number : ℕ) {place : ℕ} → Pass (checks_before number checks) → met_by checks number ≡ Some place
       → writing_of tags plan room ≡ refused number place
   unfolding writing_of
   writing-refused number passes e = met-first checks _ number passes e
@@ -159,7 +158,7 @@ module _ (tags plan other : List ℕ) (same-groups : planned_groups plan ≡ pla
 
 -- "writing with the same list and the plan as it was yielded": none of 8, 2, 5, 6, 17, 10 and 18 comes, and 9 decides.
 module _ (tags : List ℕ) (groups limit : ℕ) (passes : Pass (earlier_checks tags groups limit))
-    (every : first (seedless groups tags limit) groups ≡ none) where
+    (every : first (seedless groups tags limit) groups ≡ None) where
   abbrev yielded : List ℕ
   yielded = plan_of groups (seed_taken groups tags limit)
 
@@ -170,14 +169,14 @@ module _ (tags : List ℕ) (groups limit : ℕ) (passes : Pass (earlier_checks t
   unfolding earlier_checks
   limit-most = (inside 1 limit_max limit (false-of-met _ (passed (earlier_checks tags groups limit) passes 4))).1
 
-  seeds-small : first (seed_above yielded) groups ≡ none
+  seeds-small : first (seed_above yielded) groups ≡ None
   seeds-small =
       first_out (seed_above yielded) groups
       (λ g lt.
       let own = plan-seed groups (seed_taken groups tags limit) g lt in
       le-ltb seed_max (planned_seed yielded g) (omega (arith, own, (least g lt).below, limit-most)))
 
-  all-filled : first (unfilled tags yielded) groups ≡ none
+  all-filled : first (unfilled tags yielded) groups ≡ None
   all-filled = first_out (unfilled tags yielded) groups (λ g lt.
       rw (
         plan-groups groups (seed_taken groups tags limit),

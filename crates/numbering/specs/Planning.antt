@@ -1,6 +1,5 @@
 -- The operation "planning": the seeds of all groups, before an image is written. Document 02, §3. Assumes nothing.
-use Rattle.std.specs.Prelude.{ℕ, Bool, not, List, [], ◌∷◌, ◌++◌, ltb, length}
-use Rattle.std.proofs.Math.Option.{get_or}
+use Rattle.std.specs.Prelude.{ℕ, Bool, not, List, [], ◌∷◌, ◌++◌, ltb, length, unwrap_or}
 use Rattle.refusal.specs.Limits.{tags_max, groups_max, group_max, outside}
 use Rattle.refusal.specs.Outcome.{Outcome, answered, on_answer}
 use Rattle.lists.specs.First.{first, is_some}
@@ -47,7 +46,7 @@ planning_of tags groups limit = in_order (planning_checks tags groups limit) (an
 
 -- The seed taken for group g: the least below the limit.
 unfoldable pub seed_taken : ℕ → List ℕ → ℕ → ℕ → ℕ
-seed_taken groups tags limit g = get_or (least_seed (members groups g tags) limit) 0
+seed_taken groups tags limit g = unwrap_or (least_seed (members groups g tags) limit) 0
 
 -- "planning takes list, B and L and yields a plan".
 unfoldable pub plan_after : List ℕ → ℕ → ℕ → List ℕ

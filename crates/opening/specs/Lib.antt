@@ -2,5 +2,4 @@ pub mod Opened
 pub mod OpenedLaws
 pub mod Opening
 pub mod OpeningLaws
-pub mod Answer
 pub mod PlaceLaws

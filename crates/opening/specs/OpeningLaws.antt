@@ -1,8 +1,7 @@
 -- What follows from how an image opens, for what stands behind the opening checks. Assumes nothing.
-use Rattle.std.specs.Prelude.{◌≡◌, List, ℕ, ◌+◌, ◌*◌, ◌≤◌, ◌<◌, length}
+use Rattle.std.specs.Prelude.{◌≡◌, List, ℕ, ◌+◌, ◌*◌, ◌≤◌, ◌<◌, length, None, Some}
 use Rattle.std.proofs.Math.Path.{sym}
 use Rattle.std.proofs.Common.{◌∙◌}
-use Rattle.std.proofs.Math.Option.{none, some}
 use Rattle.refusal.specs.Outcome.{Outcome, answered, refused}
 use Rattle.refusal.specs.Checks.{in_order}
 use Rattle.text.specs.Line.{line_length, line_at, image_header}
@@ -51,22 +50,22 @@ module _ (image : List ℕ) where
   open-short short = short-for (whole_of image) (view_of image) short
 
   module _ (long : line_length ≤ length image) where
-    pub open-malformed : image_header (line_at 0 image) ≡ none → opening_of image ≡ refused 12 0
+    pub open-malformed : image_header (line_at 0 image) ≡ None → opening_of image ≡ refused 12 0
     unfolding opening_of view_of
     open-malformed header = malformed-for (whole_of image) (view_of image) long header
 
     -- The stated length is 11 × (1 + B + N).
-    whole_is : {n b : ℕ} → image_header (line_at 0 image) ≡ some (n, b) → whole_of image ≡ line_length * (1 + b + n)
+    whole_is : {n b : ℕ} → image_header (line_at 0 image) ≡ Some (n, b) → whole_of image ≡ line_length * (1 + b + n)
     unfolding view_of image_length
     whole_is header = let counts = counts-in (view_of image) header in cc (counts.0, counts.1)
 
-    pub open-other-length : {n b : ℕ} → image_header (line_at 0 image) ≡ some (n, b) → (length image ≡ line_length * (1 + b + n) → ⊥)
+    pub open-other-length : {n b : ℕ} → image_header (line_at 0 image) ≡ Some (n, b) → (length image ≡ line_length * (1 + b + n) → ⊥)
         → opening_of image ≡ refused 11 0
     unfolding opening_of view_of
     open-other-length header other =
         other-for (whole_of image) (view_of image) long header (λ same. other (same ∙ whole_is header))
 
-    pub open-counts : {n b : ℕ} → image_header (line_at 0 image) ≡ some (n, b) → length image ≡ line_length * (1 + b + n)
+    pub open-counts : {n b : ℕ} → image_header (line_at 0 image) ≡ Some (n, b) → length image ≡ line_length * (1 + b + n)
         → opening_of image ≡ answered (n, b)
     unfolding opening_of view_of
     open-counts header whole = counts-for (whole_of image) (view_of image) long header (whole ∙ sym (whole_is header))

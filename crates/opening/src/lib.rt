@@ -4,37 +4,24 @@
 ghost use Rattle.std.specs.Prelude.{◌≡◌};
 ghost use Rattle.image.specs.View.{faulty};
 ghost use Rattle.opening.specs.Opening.{opening_of};
-ghost use Rattle.opening.specs.Answer.{opened_outcome};
+ghost use Rattle.refusal.specs.Answer.{outcome};
 
 use refusal::{Reason, Refusal};
-use text::{LINE_LENGTH, Pair};
-
-// N and B of an image whose length and line 0 are right, or why they are not.
-#[derive(Drop)]
-pub enum Opened {
-    Counts(u32, u32),
-    Refused(Refusal),
-}
+use text::LINE_LENGTH;
 
 // "11, 12 and 11": the checks that come first in checking and in lookup.
-pub fn open(image: &[u8]) -> Opened
-    ensures answer { opened_outcome result ≡ opening_of image.now }
+pub fn open(image: &[u8]) -> Result<(u32, u32), Refusal>
+    ensures answer { outcome result ≡ opening_of image.now }
 {
     if LINE_LENGTH <= image.len() {
-        let Pair::Numbers(count, groups) = lines::read_image_header(image, 0) else {
-            return Opened::Refused(Refusal {
-                reason: Reason::MalformedLine,
-                place: 0,
-            });
+        let Some((count, groups)) = lines::read_image_header(image, 0) else {
+            return Err(Reason::MalformedLine.into());
         };
         if image.len() == LINE_LENGTH * (1 + groups + count) as usize {
-            return Opened::Counts(count, groups);
+            return Ok((count, groups));
         }
     }
-    Opened::Refused(Refusal {
-        reason: Reason::WrongLength,
-        place: 0,
-    })
+    Err(Reason::WrongLength.into())
 }
 
 // Is group g faulty, which starts at `start` and after which `next` comes?

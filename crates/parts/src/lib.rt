@@ -6,55 +6,45 @@ mod worked;
 
 ghost use Rattle.std.specs.Prelude.{◌≡◌, ◌≤◌, length};
 ghost use Rattle.refusal.specs.Limits.{group_max, seed_max};
-ghost use Rattle.refusal.specs.Outcome.{answered, refused};
-ghost use Rattle.refusal.specs.Reason.{reason_number};
 ghost use Rattle.group.specs.Group.{group_under};
 ghost use Rattle.graph.specs.Parts.{parts_of};
 ghost use Rattle.parts_condition.specs.Condition.{PartsCondition};
-ghost use Rattle.parts.specs.Answer.{parts_outcome};
+ghost use Rattle.parts.specs.Answer.{parts_meaning, parts_outcome};
 ghost use Rattle.counting.specs.Counting.{counting_of};
 
-use refusal::{First, MEMBER_CELLS, Reason, Refusal};
+use refusal::{MEMBER_CELLS, Reason, Refusal};
 
-// Whether the seed serves the group, with the number of parts; or refused.
-#[derive(Drop)]
-pub enum PartsAnswer {
-    Serves(u32),
-    DoesNotServe(u32),
-    Refused(Refusal),
-}
-
-// A refusal that names no place, or this one.
-fn refuse(reason: Reason, place: usize) -> PartsAnswer
-    ensures answer { parts_outcome result ≡ refused (reason_number reason) place }
-{
-    PartsAnswer::Refused(Refusal { reason, place })
+// Whether the seed serves the group, and the number of parts.
+#[derive(Clone, Copy, Debug, PartialEq, Eq)]
+pub struct Parts {
+    pub serves: bool,
+    pub number: u32,
 }
 
 // The operation "counting parts", for any list and any seed.
-pub fn count_parts(tags: &[u32], seed: u32) -> PartsAnswer
+pub fn count_parts(tags: &[u32], seed: u32) -> Result<Parts, Refusal>
     ensures answer { parts_outcome result ≡ counting_of tags.now seed }
     ensures condition { PartsCondition tags.now seed (parts_outcome result) }
 {
     if refusal::SEED_MAX < seed {
-        return refuse(Reason::SeedOutOfRange, 0);
+        return Err(Reason::SeedOutOfRange.into());
     }
     if (refusal::GROUP_MAX as usize) < tags.len() {
-        return refuse(Reason::TooManyTags, 0);
+        return Err(Reason::TooManyTags.into());
     }
-    if let First::At(i) = group::first_not_above(tags) {
-        return refuse(Reason::NotAscending, i);
+    if let Some(i) = group::first_not_above(tags) {
+        return Err(Reason::NotAscending.at(i));
     }
     if group::starts_unwired(tags) {
-        return refuse(Reason::UnwiredTag, 0);
+        return Err(Reason::UnwiredTag.into());
     }
-    parts_under(tags, seed)
+    Ok(parts_under(tags, seed))
 }
 
 // The parts of a group's graph under a seed: its places are the points, its tags the edges.
-fn parts_under(tags: &[u32], seed: u32) -> PartsAnswer
+fn parts_under(tags: &[u32], seed: u32) -> Parts
     requires { (length tags.now ≤ group_max) × (seed ≤ seed_max) }
-    ensures answer { parts_outcome result ≡ answered (parts_of (length tags.now) (group_under tags.now seed)) }
+    ensures answer { parts_meaning result ≡ parts_of (length tags.now) (group_under tags.now seed) }
 {
     let n = tags.len();
     let mut places = [0u32; places::PLACE_CELLS];
@@ -65,10 +55,8 @@ fn parts_under(tags: &[u32], seed: u32) -> PartsAnswer
     tally::count_points(&labels, n, &mut points);
     let mut edges = [0u8; MEMBER_CELLS];
     tally::count_edges(&places, &labels, n, &mut edges);
-    let parts = tally::part_count(&points, n);
-    if tally::has_more_edges(&points, &edges, n) {
-        PartsAnswer::DoesNotServe(parts)
-    } else {
-        PartsAnswer::Serves(parts)
+    Parts {
+        serves: !tally::has_more_edges(&points, &edges, n),
+        number: tally::part_count(&points, n),
     }
 }

@@ -4,7 +4,7 @@ ghost use Rattle.filling.specs.Filling.{Fills};
 ghost use Rattle.group.specs.Group.{group_under};
 ghost use Rattle.parts_condition.specs.Condition.{PartsChecks};
 
-use crate::{PartsAnswer, count_parts};
+use crate::count_parts;
 
 // {1, 3} under seed 0, of whose places 0 and 1 no tag has place 0: two parts, and the seed does not serve.
 pub fn parts_of_one_and_three() -> u32
@@ -12,9 +12,8 @@ pub fn parts_of_one_and_three() -> u32
 {
     let tags = [1u32, 3];
     match count_parts(&tags, 0) {
-        PartsAnswer::Serves(_) => 0,
-        PartsAnswer::DoesNotServe(number) => number,
-        PartsAnswer::Refused(_) => 0,
+        Ok(parts) => parts.number,
+        Err(_) => 0,
     }
 }
 
@@ -24,8 +23,7 @@ pub fn serves(tags: &[u32], seed: u32) -> bool
         → (result ≡ true) ↔ ((choices : List Bool) × Fills (group_under tags.now seed) choices) }
 {
     match count_parts(tags, seed) {
-        PartsAnswer::Serves(_) => true,
-        PartsAnswer::DoesNotServe(_) => false,
-        PartsAnswer::Refused(_) => false,
+        Ok(parts) => parts.serves,
+        Err(_) => false,
     }
 }

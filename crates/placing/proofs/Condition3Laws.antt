@@ -2,8 +2,7 @@
 -- word is a number of 32 bits. Assumes nothing.
 use Rattle.std.proofs.Math.Path.{◌≡◌, refl, sym}
 use Rattle.std.proofs.Common.{◌∙◌, arith, pow_mono}
-use Rattle.std.specs.Prelude.{not, List, ℕ, ◌^◌, ◌≤◌, ◌<◌, length}
-use Rattle.std.proofs.Math.Option.{Option, none, some}
+use Rattle.std.specs.Prelude.{not, List, ℕ, ◌^◌, ◌≤◌, ◌<◌, length, Option, None, Some}
 use borrow.Author.Tests.{ltb-false, le-ltb}
 use Rattle.refusal.specs.Limits.{tag_end, limit_max, group_max}
 use Rattle.refusal.proofs.LimitsLaws.{outside-not, inside, word-bits}
@@ -35,7 +34,7 @@ module _ (tags : List ℕ) (limit : ℕ) where
   }
 
   -- The group's least seed, and the word of the sequence taken under it.
-  placed_of : (s : ℕ) → least_seed tags limit ≡ some s → Placed tags limit (record { seed = s; word = word_of (taken tags s) })
+  placed_of : (s : ℕ) → least_seed tags limit ≡ Some s → Placed tags limit (record { seed = s; word = word_of (taken tags s) })
   placed_of s e =
       let found = least_seed-some tags limit e in
       let size = fills-length (length tags) s tags found.fills in
@@ -56,10 +55,10 @@ module _ (tags : List ℕ) (limit : ℕ) where
       let (passes, told) = in_order-answered checks (answered (placement_of tags limit)) e in
       go (least_seed tags limit) refl (passed checks passes 7) told
     where
-      go : (o : Option ℕ) → least_seed tags limit ≡ o → met (not (is_some (least_seed tags limit))) ≡ none
+      go : (o : Option ℕ) → least_seed tags limit ≡ o → met (not (is_some (least_seed tags limit))) ≡ None
           → answered (placement_of tags limit) ≡ answered placed → Placed tags limit placed
-      go none e seeded told = absurd (let z : none ≡ some 0 = sym seeded ∙ met-true (rw e) in let y : ◌≡◌ {A = ℕ} 0 1 = cc in omega arith)
-      go (some s) e seeded told =
+      go None e seeded told = absurd (let z : None ≡ Some 0 = sym seeded ∙ met-true (rw e) in let y : ◌≡◌ {A = ℕ} 0 1 = cc in omega arith)
+      go (Some s) e seeded told =
           let same : record { seed = s; word = word_of (taken tags s) } ≡ placed = cc in
           rw same at (placed_of s e)
 
@@ -69,8 +68,8 @@ module _ (tags : List ℕ) (limit : ℕ) where
     refused-unserved e = go (least_seed tags limit) refl
       where
         go : (o : Option ℕ) → least_seed tags limit ≡ o → Unserved tags limit
-        go none out = least_seed-none tags limit out
-        go (some s) found = absurd (let z = sym (placing-seeded (placeable h) found) ∙ e in let y : ◌≡◌ {A = ℕ} 0 1 = cc in omega arith)
+        go None out = least_seed-none tags limit out
+        go (Some s) found = absurd (let z = sym (placing-seeded (placeable h) found) ∙ e in let y : ◌≡◌ {A = ℕ} 0 1 = cc in omega arith)
 
     unserved-refused : Unserved tags limit → placing_of tags limit ≡ refused 7 0
     unserved-refused out = placing-unseeded (placeable h) (least_seed-out tags limit out)
@@ -79,8 +78,8 @@ module _ (tags : List ℕ) (limit : ℕ) where
     served-accepted served = go (least_seed tags limit) refl
       where
         go : (o : Option ℕ) → least_seed tags limit ≡ o → (placed : Placement) × (placing_of tags limit ≡ answered placed)
-        go none out = absurd (served (least_seed-none tags limit out))
-        go (some s) found = (_, placing-seeded (placeable h) found)
+        go None out = absurd (served (least_seed-none tags limit out))
+        go (Some s) found = (_, placing-seeded (placeable h) found)
 
   -- Placing meets the condition.
   pub placing-condition3 : GroupCondition3 tags limit (placing_of tags limit)
@@ -104,10 +103,10 @@ module _ (tags : List ℕ) (limit : ℕ) where
   condition3-decides h {answer} c = go (least_seed tags limit) refl
     where
       go : (o : Option ℕ) → least_seed tags limit ≡ o → answer ≡ placing_of tags limit
-      go none out =
+      go None out =
           let unserved = least_seed-none tags limit out in
           (c.refused-7 h).1 unserved ∙ sym (unserved-refused h unserved)
-      go (some s) found =
+      go (Some s) found =
           let least = least_seed-some tags limit found in
           let (placed, is) = c.otherwise h (λ unserved. unserved s least.below _ least.fills) in
           is ∙ sym (placed-only h placed (c.accepted placed is))

@@ -1,7 +1,6 @@
 -- A group of 32 tags whose choice word has every bit but the lowest, bit 31 among them: its tags lie along a path. Assumes nothing.
-use Rattle.std.specs.Prelude.{◌≡◌, refl, Bool, true, false, List, [], ◌∷◌, ℕ, length, replicate}
+use Rattle.std.specs.Prelude.{◌≡◌, refl, Bool, true, false, List, [], ◌∷◌, ℕ, length, replicate, Some}
 use Rattle.std.proofs.Common.{sym, ◌∙◌, arith}
-use Rattle.std.proofs.Math.Option.{some, or_else}
 use Rattle.refusal.specs.Limits.{outside}
 use Rattle.refusal.specs.Outcome.{answered}
 use Rattle.refusal.specs.Checks.{met}
@@ -43,20 +42,20 @@ apart : fresh (0 ∷ []) places ≡ true
 unfolding occurs
 apart = refl
 
-sequence-is : sequence_taken (group_under tags 0) ≡ some choices
+sequence-is : sequence_taken (group_under tags 0) ≡ Some choices
 sequence-is = rw along (path-taken 0 places apart)
 
 fills : Fills (group_under tags 0) choices
 fills = sequence-fills (group_under tags 0) sequence-is
 
-seed-is : least_seed tags 1 ≡ some 0
+seed-is : least_seed tags 1 ≡ Some 0
 seed-is = least_seed-only tags 1 0 choices (omega arith) fills (λ t lt. absurd (omega arith))
 
 taken_is : taken tags 0 ≡ choices
 taken_is = let found = sym (taken-of-fills tags 0 choices fills) ∙ sequence-is in cc
 
 placeable : Placeable tags 1
-unfolding outside or_else met_at met first not_above starts_unwired placing_checks
+unfolding outside met_at met first not_above starts_unwired placing_checks
 placeable = record { passes = (refl, (refl, (refl, (refl, tt)))) }
 
 -- So placing answers seed 0 and 2^32 - 2.

@@ -1,8 +1,7 @@
 -- The ways in which placing a group ends, by the numbers of its checks. Assumes nothing.
-use Rattle.std.specs.Prelude.{◌≡◌, List, ℕ, ◌≤◌, length}
+use Rattle.std.specs.Prelude.{◌≡◌, List, ℕ, ◌≤◌, length, Option, None, Some}
 use Rattle.std.proofs.Math.Path.{refl}
 use Rattle.std.proofs.Common.{◌∙◌, arith}
-use Rattle.std.proofs.Math.Option.{Option, none, some}
 use borrow.Author.Tests.{ltb-false}
 use Rattle.refusal.specs.Limits.{limit_max, group_max}
 use Rattle.refusal.proofs.LimitsLaws.{inside}
@@ -18,7 +17,7 @@ use Rattle.group.specs.Placing.{Placement, placing_checks, placement_of, placing
 
 -- A check that is met where those before it pass is placing's refusal.
 pub placing-refused : (tags : List ℕ) (limit number : ℕ) {place : ℕ} → Pass (checks_before number (placing_checks tags limit))
-    → met_by (placing_checks tags limit) number ≡ some place → placing_of tags limit ≡ refused number place
+    → met_by (placing_checks tags limit) number ≡ Some place → placing_of tags limit ≡ refused number place
 unfolding placing_of
 placing-refused tags limit number = met-first (placing_checks tags limit) _ number
 
@@ -35,11 +34,11 @@ module _ {tags : List ℕ} {limit : ℕ} (p : Placeable tags limit) where
   unfolding placing_checks
   few = ltb-false group_max (length tags) (false-of-met _ (passed (checks_before 7 (placing_checks tags limit)) p.passes 5))
 
-  pub placing-unseeded : least_seed tags limit ≡ none → placing_of tags limit ≡ refused 7 0
+  pub placing-unseeded : least_seed tags limit ≡ None → placing_of tags limit ≡ refused 7 0
   unfolding placing_checks is_some
   placing-unseeded e = placing-refused tags limit 7 p.passes (met-true (rw e))
 
-  pub placing-seeded : {s : ℕ} → least_seed tags limit ≡ some s
+  pub placing-seeded : {s : ℕ} → least_seed tags limit ≡ Some s
       → placing_of tags limit ≡ answered (record { seed = s; word = word_of (taken tags s) })
   unfolding placing_of placing_checks is_some placement_of
   placing-seeded e =
@@ -47,7 +46,7 @@ module _ {tags : List ℕ} {limit : ℕ} (p : Placeable tags limit) where
 
 -- An answer says that the checks before 7 pass, and is the least seed and the word of the sequence taken under it.
 pub placing-says : (tags : List ℕ) (limit : ℕ) {placed : Placement} → placing_of tags limit ≡ answered placed
-    → Placeable tags limit × (least_seed tags limit ≡ some placed.seed) × (placed.word ≡ word_of (taken tags placed.seed))
+    → Placeable tags limit × (least_seed tags limit ≡ Some placed.seed) × (placed.word ≡ word_of (taken tags placed.seed))
 unfolding placing_of placing_checks
 placing-says tags limit {placed} e = go (least_seed tags limit) refl
   where
@@ -55,8 +54,8 @@ placing-says tags limit {placed} e = go (least_seed tags limit) refl
     front = record { passes = pass-before (placing_checks tags limit) (in_order-answered (placing_checks tags limit) _ e).0 7 }
 
     go : (o : Option ℕ) → least_seed tags limit ≡ o
-        → Placeable tags limit × (least_seed tags limit ≡ some placed.seed) × (placed.word ≡ word_of (taken tags placed.seed))
-    go none f = let r = placing-unseeded front f in absurd (let z : ◌≡◌ {A = ℕ} 0 1 = cc in omega arith)
-    go (some s) f =
+        → Placeable tags limit × (least_seed tags limit ≡ Some placed.seed) × (placed.word ≡ word_of (taken tags placed.seed))
+    go None f = let r = placing-unseeded front f in absurd (let z : ◌≡◌ {A = ℕ} 0 1 = cc in omega arith)
+    go (Some s) f =
         let same : placed ≡ record { seed = s; word = word_of (taken tags s) } = cc (placing-seeded front f) in
         (front, f ∙ rw same, rw same)

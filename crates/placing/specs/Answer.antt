@@ -1,19 +1,12 @@
 -- What the code's answers mean. Assumes nothing.
-use Rattle.std.specs.Prelude.{ℕ}
+use Rattle.std.specs.Prelude.{Result, Ok, Err}
 use Rattle.refusal.specs.Outcome.{Outcome, answered}
 use Rattle.refusal.specs.Reason.{refusal_of}
+use Rattle.refusal.specs.declared.Refusal.{Refusal}
 use Rattle.group.specs.Placing.{Placement}
-use Rattle.placing.specs.declared.PlacingAnswer.{PlacingAnswer}
-use Rattle.placing.specs.declared.PlacingAnswer.TheVariants.{Placed, Refused}
-use Rattle.placing.specs.declared.SeedAnswer.{SeedAnswer}
-use Rattle.placing.specs.declared.SeedAnswer.TheVariants.{Seed, Refused as Seedless}
+use Rattle.placing.specs.declared.Placed.{Placed}
 
 -- The seed and the choice word, or the refusal.
-abbrev pub placing_outcome : PlacingAnswer → Outcome Placement
-placing_outcome (Placed seed word) = answered (record { seed = seed; word = word })
-placing_outcome (Refused refusal) = refusal_of refusal
-
--- The seed, or the refusal.
-abbrev pub seed_outcome : SeedAnswer → Outcome ℕ
-seed_outcome (Seed seed) = answered seed
-seed_outcome (Seedless refusal) = refusal_of refusal
+abbrev pub placing_outcome : Result Placed Refusal → Outcome Placement
+placing_outcome (Ok placed) = answered (record { seed = placed.seed; word = placed.word })
+placing_outcome (Err refusal) = refusal_of refusal

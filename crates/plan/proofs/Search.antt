@@ -1,7 +1,7 @@
 -- What the loop over the groups keeps. Assumes nothing.
 use mathlib.Core.Path.{◌≡◌, refl}
 use mathlib.Core.List.{List}
-use mathlib.Core.Option.{none, some}
+use Rattle.std.specs.Prelude.{None, Some}
 use Prim.Native.Nat.{ℕ, ◌+◌, ◌-◌, ◌≤◌, ◌<◌}
 use native.Mathlib.Numerals.{add-one}
 use native.Mathlib.Omega.{arith}
@@ -51,7 +51,7 @@ module _ {groups limit : ℕ} {ordered ends seeds₀ seeds : List ℕ} {start g 
 
   -- and where it refuses, this is the lowest group without one.
   pub found-without : {number place : ℕ} → seed_placed part limit ≡ refused number place
-      → first (unseeded ordered ends limit) groups ≡ some g
+      → first (unseeded ordered ends limit) groups ≡ Some g
   unfolding unseeded is_some
   found-without e =
       let own = rw (part-is p.parts g done.start_is) at e in
@@ -62,7 +62,7 @@ module _ {groups limit : ℕ} {ordered ends seeds₀ seeds : List ℕ} {start g 
 -- When all groups are searched, each has its seed.
 pub found-done : {groups limit : ℕ} {ordered ends seeds₀ seeds : List ℕ} {start g : ℕ}
     → FoundUpTo groups ordered ends limit seeds₀ seeds start g → groups ≤ g
-    → (first (unseeded ordered ends limit) groups ≡ none) × (seeds ≡ seeds_found ordered ends limit groups seeds₀)
+    → (first (unseeded ordered ends limit) groups ≡ None) × (seeds ≡ seeds_found ordered ends limit groups seeds₀)
 found-done {groups} {limit} {ordered} {ends} {seeds₀} {seeds} {start} {g} done past =
     let all : g ≡ groups = omega (arith, done.searched.within) in
     (searched-done (unseeded ordered ends limit) 0 groups g done.searched past, rw all at done.seeds-are)

@@ -1,6 +1,5 @@
 -- The seeds of all groups, found part by part. Assumes nothing.
-use Rattle.std.specs.Prelude.{Bool, not, List, ◌++◌, ℕ, ◌≤◌, ◌<◌, length, drop}
-use Rattle.std.proofs.Math.Option.{get_or}
+use Rattle.std.specs.Prelude.{Bool, not, List, ◌++◌, ℕ, ◌≤◌, ◌<◌, length, drop, unwrap_or}
 use Rattle.refusal.specs.Limits.{group_max, limit_max}
 use Rattle.lists.specs.First.{is_some}
 use Rattle.group.specs.Group.{least_seed}
@@ -15,7 +14,7 @@ unseeded ordered ends limit g = not (is_some (least_seed (part_of ordered ends g
 
 -- The least seed for the group's part, 0 where there is none.
 unfoldable pub part_seed : List ℕ → List ℕ → ℕ → ℕ → ℕ
-part_seed ordered ends limit g = get_or (least_seed (part_of ordered ends g) limit) 0
+part_seed ordered ends limit g = unwrap_or (least_seed (part_of ordered ends g) limit) 0
 
 -- The cells with the seeds of the groups below `found`; the other cells are as they were.
 unfoldable pub seeds_found : List ℕ → List ℕ → ℕ → ℕ → List ℕ → List ℕ

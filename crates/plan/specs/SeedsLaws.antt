@@ -1,7 +1,6 @@
 -- What the seed that placing answers says of a group's part, and the cells that hold the seeds. Assumes nothing.
-use Rattle.std.specs.Prelude.{◌≡◌, refl, List, ◌++◌, ℕ, suc, ◌+◌, ◌≤◌, ◌<◌, length, get_or, set, drop}
+use Rattle.std.specs.Prelude.{◌≡◌, refl, List, ◌++◌, ℕ, suc, ◌+◌, ◌≤◌, ◌<◌, length, get_or, set, drop, Option, None, Some}
 use Rattle.std.proofs.Common.{sym, ◌∙◌, add-one, arith, drop-cons, le-ltb}
-use Rattle.std.proofs.Math.Option.{Option, none, some}
 use Rattle.std.proofs.lemmas.List.{set_at}
 use Rattle.std.proofs.Math.Seq.{append_snoc}
 use Rattle.refusal.specs.Limits.{group_max, limit_max}
@@ -25,7 +24,7 @@ abbrev pub seed_placed : List ℕ → ℕ → Outcome ℕ
 seed_placed part limit = answered_by (λ (placed : Placement). placed.seed) (placing_of part limit)
 
 -- A seed that is answered is the least,
-pub placed-seed : (part : List ℕ) (limit : ℕ) {seed : ℕ} → seed_placed part limit ≡ answered seed → least_seed part limit ≡ some seed
+pub placed-seed : (part : List ℕ) (limit : ℕ) {seed : ℕ} → seed_placed part limit ≡ answered seed → least_seed part limit ≡ Some seed
 placed-seed part limit e =
     let (placed, outcome, same) = answered-of-by (λ (placed : Placement). placed.seed) (placing_of part limit) e in
     rw same at (placing-says part limit outcome).1
@@ -44,12 +43,12 @@ module _ (part : List ℕ) (limit : ℕ) (legal : (1 ≤ limit) × (limit ≤ li
         then tt;
   }
 
-  pub refused-seedless : {number place : ℕ} → seed_placed part limit ≡ refused number place → least_seed part limit ≡ none
+  pub refused-seedless : {number place : ℕ} → seed_placed part limit ≡ refused number place → least_seed part limit ≡ None
   refused-seedless e = go (least_seed part limit) refl
     where
-      go : (o : Option ℕ) → least_seed part limit ≡ o → o ≡ none
-      go none f = refl
-      go (some s) f =
+      go : (o : Option ℕ) → least_seed part limit ≡ o → o ≡ None
+      go None f = refl
+      go (Some s) f =
           let answer = placing-seeded placeable f in
           let refusal = refused-of-by (λ (placed : Placement). placed.seed) (placing_of part limit) e in
           absurd (let z : ◌≡◌ {A = ℕ} 0 1 = cc in omega arith)

@@ -1,8 +1,7 @@
 -- What the arrays hold once the tags are ordered and the seeds found. Assumes nothing.
-use Rattle.std.specs.Prelude.{◌≡◌, List, ◌∷◌, ℕ, zero, suc, ◌-◌, ◌≤◌, length, drop, replicate}
+use Rattle.std.specs.Prelude.{◌≡◌, List, ◌∷◌, ℕ, zero, suc, ◌-◌, ◌≤◌, length, drop, replicate, None}
 use Rattle.std.proofs.Math.Path.{refl}
 use Rattle.std.proofs.Common.{◌∙◌, arith}
-use Rattle.std.proofs.Math.Option.{none}
 use borrow.Author.Tests.{ltb-false}
 use Rattle.refusal.specs.Limits.{tags_max, groups_max, unwired}
 use Rattle.refusal.proofs.LimitsLaws.{inside}
@@ -35,14 +34,14 @@ module _ {tags : List ℕ} {groups limit : ℕ} (a : Admitted tags groups limit)
       ltb-false tags_max (length tags) (false-of-met _ (passed (checks_before 10 (earlier_checks tags groups limit)) a.passes 5))
 
   -- With 10 all checks before 7 pass.
-  pub passed-10 : first (too_large groups tags) groups ≡ none → Pass (earlier_checks tags groups limit)
+  pub passed-10 : first (too_large groups tags) groups ≡ None → Pass (earlier_checks tags groups limit)
   unfolding earlier_checks
   passed-10 small = passed_on (earlier_checks tags groups limit) 10 7 refl a.passes small
 
 -- The zeros behind B's seeds.
 drop-zeros : (n g : ℕ) → drop {A = ℕ} g (replicate n 0) ≡ replicate (n - g) 0
 drop-zeros zero zero = refl
-drop-zeros zero (suc g) = let none : 0 - suc g ≡ 0 = omega arith in rw none
+drop-zeros zero (suc g) = let None : 0 - suc g ≡ 0 = omega arith in rw None
 drop-zeros (suc n) zero = let whole : suc n - 0 ≡ suc n = omega arith in rw whole
 drop-zeros (suc n) (suc g) = let less : suc n - suc g ≡ n - g = omega arith in drop-zeros n g ∙ rw less
 

@@ -4,8 +4,6 @@
 ghost use Rattle.std.specs.Prelude.{◌≡◌, length};
 ghost use Rattle.printing.specs.Printing.{printed_count, printed_into};
 
-use building::BuildAnswer;
-
 // The most bytes that an image has.
 pub const LONGEST_IMAGE: usize = text::LINE_LENGTH
     * (1 + refusal::GROUP_CELLS + refusal::TAG_CELLS);
@@ -20,10 +18,9 @@ pub fn print_index(text: &[u8], out: &mut [u8]) -> usize
         return 0;
     }
     match from_text::build_from_text(text, out) {
-        BuildAnswer::Built(size) => size,
-        BuildAnswer::Refused(refusal) => {
-            let reason = refusal.reason;
-            let number = refusal::reason_number(reason);
+        Ok(size) => size,
+        Err(refusal) => {
+            let number = u32::from(refusal.reason);
             let place = refusal.place as u32;
             lines::write_pair_line(out, 0, number, place);
             text::LINE_LENGTH

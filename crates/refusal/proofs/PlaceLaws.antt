@@ -1,8 +1,7 @@
 -- How far a refusal's place can lie, and that its number is not 0: from an operation's list of checks. Assumes nothing.
-use Rattle.std.specs.Prelude.{◌≡◌, refl, Bool, cond, ◌&&◌, ℕ, ◌≤◌, ◌<◌, ltb}
+use Rattle.std.specs.Prelude.{◌≡◌, refl, Bool, cond, ◌&&◌, ℕ, ◌≤◌, ◌<◌, ltb, Option, None, Some}
 use Rattle.std.proofs.Math.Bool.{true, false}
 use mathlib.Core.List.{List, [], ◌∷◌, ◌++◌, append-nil, append_assoc}
-use Rattle.std.proofs.Math.Option.{Option, none, some}
 use Rattle.std.proofs.Common.{arith}
 use borrow.Author.Tests.{ltb-true}
 use Rattle.lists.proofs.BoolLaws.{both-of-and}
@@ -14,8 +13,8 @@ use Rattle.refusal.proofs.ChecksLaws.{pass-append}
 
 -- A place, where one is named, is below the bound.
 abbrev pub SpotBelow : ℕ → Option ℕ → Type 0
-SpotBelow bound none = Unit {0}
-SpotBelow bound (some place) = place < bound
+SpotBelow bound None = Unit {0}
+SpotBelow bound (Some place) = place < bound
 
 -- A refusal's place is below the bound. An answer has none.
 abbrev pub PlaceBelow : {A : Type 0} → ℕ → Outcome A → Type 0
@@ -32,10 +31,10 @@ module _ {A : Type 0} (bound : ℕ) where
       → (Pass (front ++ checks) → PlaceBelow bound o) → PlaceBelow bound (in_order checks o)
   unfolding in_order
   below-from front [] o passes each behind = behind (rw append-nil passes)
-  below-from front ((number, none) ∷ checks) o passes each behind =
-      below-from (front ++ (number, none) ∷ []) checks o (pass-append front _ passes (refl, tt)) each.1
+  below-from front ((number, None) ∷ checks) o passes each behind =
+      below-from (front ++ (number, None) ∷ []) checks o (pass-append front _ passes (refl, tt)) each.1
       (λ all. behind (rw append_assoc at all))
-  below-from front ((number, some place) ∷ checks) o passes each behind = each.0 passes
+  below-from front ((number, Some place) ∷ checks) o passes each behind = each.0 passes
 
   -- Then the place of the refusal that comes is below it, if it is behind the checks.
   pub below-checks : (checks : List Check) (o : Outcome A) → EachBelow bound [] checks
@@ -74,8 +73,8 @@ module _ (bound : ℕ) where
   first_below test limit le = go (first test limit) refl
     where
       go : (o : Option ℕ) → first test limit ≡ o → SpotBelow bound o
-      go none e = tt
-      go (some k) e = omega (arith, (first_some test limit e).below)
+      go None e = tt
+      go (Some k) e = omega (arith, (first_some test limit e).below)
 
 -- Every check has a number from 1 on.
 abbrev pub all_numbered : List Check → Bool
@@ -91,8 +90,8 @@ module _ {A : Type 0} where
   pub numbered-checks : (checks : List Check) (o : Outcome A) → all_numbered checks ≡ true → Numbered o → Numbered (in_order checks o)
   unfolding in_order
   numbered-checks [] o e h = h
-  numbered-checks ((number, none) ∷ checks) o e h = numbered-checks checks o (both-of-and (ltb 0 number) (all_numbered checks) e).1 h
-  numbered-checks ((number, some place) ∷ checks) o e h = ltb-true 0 number (both-of-and (ltb 0 number) (all_numbered checks) e).0
+  numbered-checks ((number, None) ∷ checks) o e h = numbered-checks checks o (both-of-and (ltb 0 number) (all_numbered checks) e).1 h
+  numbered-checks ((number, Some place) ∷ checks) o e h = ltb-true 0 number (both-of-and (ltb 0 number) (all_numbered checks) e).0
 
   pub numbered-followed : {B : Type 0} (o : Outcome B) (next : B → Outcome A) → Numbered o → ((b : B) → Numbered (next b))
       → Numbered (followed_by o next)

@@ -1,10 +1,10 @@
 -- What the code's answers mean. Assumes nothing.
-use Rattle.std.specs.Prelude.{ℕ}
-use Rattle.std.proofs.Math.Option.{Option, none, some}
-use Rattle.refusal.specs.declared.First.{First}
-use Rattle.refusal.specs.declared.First.TheVariants.{At, Nowhere}
+use Rattle.std.specs.Prelude.{Result, Ok, Err}
+use Rattle.refusal.specs.Outcome.{Outcome, answered}
+use Rattle.refusal.specs.Reason.{refusal_of}
+use Rattle.refusal.specs.declared.Refusal.{Refusal}
 
--- The lowest index, if there is one.
-abbrev pub first_meaning : First → Option ℕ
-first_meaning (At k) = some k
-first_meaning Nowhere = none
+-- The outcome of an operation, from what its code answers.
+abbrev pub outcome : {A : Type 0} → Result A Refusal → Outcome A
+outcome (Ok a) = answered a
+outcome (Err refusal) = refusal_of refusal

@@ -1,6 +1,5 @@
 -- The one rule by which every operation refuses. Assumes nothing.
-use Rattle.std.specs.Prelude.{ℕ, ◌≡◌, Bool, List, [], ◌∷◌}
-use Rattle.std.proofs.Math.Option.{Option, none, some}
+use Rattle.std.specs.Prelude.{ℕ, ◌≡◌, Bool, List, [], ◌∷◌, Option, None, Some}
 use Rattle.refusal.specs.Outcome.{Outcome, refused}
 use Rattle.lists.specs.First.{met_at}
 
@@ -16,10 +15,10 @@ met condition = met_at 0 condition
 -- refusal never comes." Where no condition is met, the operation comes to what stands behind the checks.
 unfoldable pub in_order : {A : Type 0} → List Check → Outcome A → Outcome A
 in_order [] outcome = outcome
-in_order ((number, none) ∷ checks) outcome = in_order checks outcome
-in_order ((number, some place) ∷ checks) outcome = refused number place
+in_order ((number, None) ∷ checks) outcome = in_order checks outcome
+in_order ((number, Some place) ∷ checks) outcome = refused number place
 
 -- No condition is met.
 abbrev pub Pass : List Check → Type 0
 Pass [] = Unit {0}
-Pass (check ∷ checks) = (check.1 ≡ none) × Pass checks
+Pass (check ∷ checks) = (check.1 ≡ None) × Pass checks

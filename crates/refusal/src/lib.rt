@@ -35,7 +35,7 @@ pub const MEMBER_CELLS: usize = GROUP_MAX as usize;
 pub const PLAN_CELLS: usize = 1 + GROUP_CELLS;
 
 // Why an operation refuses: what is the matter with its input. Documents 01 and 02 number them 1 to 19, in this order.
-#[derive(Drop)]
+#[derive(Clone, Copy, Debug, PartialEq, Eq)]
 pub enum Reason {
     SizeOutOfRange,
     SeedOutOfRange,
@@ -63,43 +63,59 @@ pub enum Reason {
 }
 
 // A refusal: the reason, and the line, index, group or slot that it names, counted from 0; 0 where it names none.
-#[derive(Drop)]
+#[derive(Clone, Copy, Debug, PartialEq, Eq)]
 pub struct Refusal {
     pub reason: Reason,
     pub place: usize,
 }
 
-// The lowest index at which a condition is met: the first line, the first index of a list, the lowest group; or it is met nowhere.
-#[derive(Drop)]
-pub enum First {
-    At(usize),
-    Nowhere,
+impl Reason {
+    // The refusal for this reason, at the line, index, group or slot that it names.
+    pub fn at(self, place: usize) -> Refusal
+        ensures answer { result ≡ record { reason = self; place = place } }
+    {
+        Refusal {
+            reason: self,
+            place,
+        }
+    }
+}
+
+// The refusal for a reason that names no place.
+impl From<Reason> for Refusal {
+    ghost from_gives = { λ reason refusal. refusal ≡ record { reason = reason; place = 0 } };
+
+    fn from(reason: Reason) -> Refusal {
+        reason.at(0)
+    }
 }
 
 // The paper's number of a reason.
-pub fn reason_number(reason: Reason) -> u32
-    ensures answer { result ≡ reason_number reason }
-{
-    match reason {
-        Reason::SizeOutOfRange => 1,
-        Reason::SeedOutOfRange => 2,
-        Reason::ChoiceOutOfRange => 3,
-        Reason::LimitOutOfRange => 4,
-        Reason::TooManyTags => 5,
-        Reason::NotAscending => 6,
-        Reason::NoSeed => 7,
-        Reason::GroupCountOutOfRange => 8,
-        Reason::BufferTooShort => 9,
-        Reason::GroupTooLarge => 10,
-        Reason::WrongLength => 11,
-        Reason::MalformedLine => 12,
-        Reason::FaultyGroup => 13,
-        Reason::WrongSlot => 14,
-        Reason::RepeatedTag => 15,
-        Reason::MalformedList => 16,
-        Reason::UnwiredTag => 17,
-        Reason::SeedDoesNotServe => 18,
-        Reason::NotAsBuilt => 19,
+impl From<Reason> for u32 {
+    ghost from_gives = { λ reason number. number ≡ reason_number reason };
+
+    fn from(reason: Reason) -> u32 {
+        match reason {
+            Reason::SizeOutOfRange => 1,
+            Reason::SeedOutOfRange => 2,
+            Reason::ChoiceOutOfRange => 3,
+            Reason::LimitOutOfRange => 4,
+            Reason::TooManyTags => 5,
+            Reason::NotAscending => 6,
+            Reason::NoSeed => 7,
+            Reason::GroupCountOutOfRange => 8,
+            Reason::BufferTooShort => 9,
+            Reason::GroupTooLarge => 10,
+            Reason::WrongLength => 11,
+            Reason::MalformedLine => 12,
+            Reason::FaultyGroup => 13,
+            Reason::WrongSlot => 14,
+            Reason::RepeatedTag => 15,
+            Reason::MalformedList => 16,
+            Reason::UnwiredTag => 17,
+            Reason::SeedDoesNotServe => 18,
+            Reason::NotAsBuilt => 19,
+        }
     }
 }
 
@@ -107,8 +123,5 @@ pub fn reason_number(reason: Reason) -> u32
 pub fn outside(low: u32, high: u32, x: u32) -> bool
     ensures answer { result ≡ outside low high x }
 {
-    if x < low {
-        return true;
-    }
-    high < x
+    x < low || high < x
 }

@@ -17,19 +17,16 @@ pub fn number(rt: &impl Print, n: u64) -> io::Result<()> {
 
 pub fn refusal(rt: &impl Print, r: Refusal) -> io::Result<()> {
     words(rt, b"refused ")?;
-    let reason = r.reason;
-    number(rt, refusal::reason_number(reason) as u64)?;
+    number(rt, u32::from(r.reason) as u64)?;
     words(rt, b" at ")?;
     number(rt, r.place as u64)
 }
 
 // Each number, with a space before it.
 pub fn numbers(rt: &impl Print, cells: &[u32]) -> io::Result<()> {
-    let mut i = 0;
-    while i < cells.len() {
+    for &cell in cells {
         words(rt, b" ")?;
-        number(rt, cells[i] as u64)?;
-        i += 1;
+        number(rt, cell as u64)?;
     }
     Ok(())
 }
@@ -40,11 +37,9 @@ pub fn number_lines(text: &mut [u8]) {
         return;
     }
     lines::write_pair_line(text, 0, 2, 9);
-    let mut at = LINE_LENGTH;
     let mut tag: u32 = 0;
-    while LINE_LENGTH <= text.len() - at {
-        lines::write_tag_line(text, at, tag);
+    for line in text[LINE_LENGTH..].chunks_exact_mut(LINE_LENGTH) {
+        lines::write_tag_line(line, 0, tag);
         tag = std::num::wrapping_add_u32(tag, 1);
-        at += LINE_LENGTH;
     }
 }

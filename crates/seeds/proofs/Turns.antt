@@ -5,7 +5,7 @@ use mathlib.Core.Path.{◌≡◌, refl, sym, ◌∙◌, ap}
 use mathlib.Core.Logic.{◌≢◌}
 use mathlib.Core.Bool.{Bool, true, false, not, not-not}
 use mathlib.Core.List.{List}
-use mathlib.Core.Option.{none, some}
+use Rattle.std.specs.Prelude.{None, Some}
 use native.Mathlib.Decide.{ℕ_discrete}
 use native.Mathlib.Numerals.{add-one}
 use native.Mathlib.Omega.{arith}
@@ -62,11 +62,11 @@ module _
   }
 
   -- The limit is reached: there is no seed.
-  pub passed-out : limit ≤ next → none ≡ least_seed tags limit
+  pub passed-out : limit ≤ next → None ≡ least_seed tags limit
   passed-out out = sym (least_seed-out tags limit (λ t lt. passed.nothing t (omega arith)))
 
   -- Something fills under `next`: it is the least seed.
-  pub passed-found : next < limit → (cs : List Bool) → Fills (group_under tags next) cs → some next ≡ least_seed tags limit
+  pub passed-found : next < limit → (cs : List Bool) → Fills (group_under tags next) cs → Some next ≡ least_seed tags limit
   passed-found lt cs f = sym (least_seed-only tags limit next cs lt f passed.nothing)
 
 -- The early drop.
@@ -165,9 +165,9 @@ turn-start tags s before {places} size cells few = record {
   reached =
       started group_max group_max (λ i lt choice. omega (arith, group-below tags s i lt choice)) (omega (arith, group-size tags s));
   match = λ v. rw (replicate-zero group_max v);
-  goes = λ some. record {
-    to = group-place tags s before few size cells 0 some false;
-    back = group-place tags s before few size cells 0 some true;
+  goes = λ Some. record {
+    to = group-place tags s before few size cells 0 Some false;
+    back = group-place tags s before few size cells 0 Some true;
   };
 }
 

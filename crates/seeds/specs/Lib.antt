@@ -1,4 +1,3 @@
-pub mod Answer
 pub mod Occupancy
 pub mod OccupancyLaws
 pub mod Tried

@@ -8,16 +8,8 @@ ghost use Rattle.std.specs.Prelude.{◌≡◌, ◌*◌, ◌≤◌, length};
 ghost use Rattle.refusal.specs.Limits.{group_max, limit_max, seed_max};
 ghost use Rattle.group.specs.Group.{group_under, least_seed};
 ghost use Rattle.places.specs.Array.{laid_into};
-ghost use Rattle.seeds.specs.Answer.{found_meaning};
 ghost use Rattle.seeds.specs.Occupancy.{occupancy_of};
 ghost use Rattle.seeds.specs.Tried.{tried, laid_after};
-
-// The least seed, if there is one.
-#[derive(Drop)]
-pub enum Found {
-    At(u32),
-    Nothing,
-}
 
 // Each number up to the most tags of a group, as one of 32 bits.
 const SIZES: [u32; refusal::MEMBER_CELLS + 1] = [
@@ -43,26 +35,24 @@ pub fn lay_out(tags: &[u32], n: u32, seed: u32, places: &mut [u32; places::PLACE
     candidates::candidate_places(tags, n, seed, places);
     let mut first: u32 = 0;
     let mut second: u32 = 0;
-    let mut i = 0;
-    while i < tags.len() {
+    for i in 0..tags.len() {
         first = bits::with_bit(first, places[i]);
         second = bits::with_bit(second, places[refusal::MEMBER_CELLS + i]);
-        i += 1;
     }
     first | second
 }
 
 // The least seed below `limit` under which some choice sequence fills the group; the candidate places under it stay in the cells.
-pub fn least_seed(tags: &[u32], limit: u32, places: &mut [u32; places::PLACE_CELLS]) -> Found
+pub fn least_seed(tags: &[u32], limit: u32, places: &mut [u32; places::PLACE_CELLS]) -> Option<u32>
     requires { (length tags.now ≤ group_max) × (limit ≤ limit_max) × (length places.old ≡ 2 * group_max) }
-    ensures answer { found_meaning result ≡ least_seed tags.now limit }
-    ensures cells { places.new ≡ laid_after tags.now (tried (found_meaning result) limit) places.old }
+    ensures answer { result ≡ least_seed tags.now limit }
+    ensures cells { places.new ≡ laid_after tags.now (tried result limit) places.old }
 {
     let n = size_of(tags);
     let mut next = 0;
     let seed = 'seeds: loop {
         if next >= limit {
-            return Found::Nothing;
+            return None;
         }
         let s = next;
         next += 1;
@@ -108,5 +98,5 @@ pub fn least_seed(tags: &[u32], limit: u32, places: &mut [u32; places::PLACE_CEL
             }
         }
     };
-    Found::At(seed)
+    Some(seed)
 }

@@ -1,6 +1,5 @@
 -- What the cells that checking reads an image into hold. Assumes nothing.
-use Rattle.std.specs.Prelude.{ℕ, ◌+◌, ◌-◌, ◌≤◌, ◌<◌, List, get_or}
-use Rattle.std.proofs.Math.Option.{some}
+use Rattle.std.specs.Prelude.{ℕ, ◌+◌, ◌-◌, ◌≤◌, ◌<◌, List, get_or, Some}
 use Rattle.refusal.specs.Limits.{groups_max, seed_max, tags_max}
 use Rattle.image.specs.Sheet.{image_length}
 use Rattle.image.specs.View.{View}
@@ -11,9 +10,9 @@ use Rattle.image.specs.Fair.{Fair}
 unfoldable pub cells_view : List ℕ → List ℕ → List ℕ → ℕ → View
 cells_view starts seeds tags groups = record {
   size = image_length groups (get_or starts groups 0);
-  header = some (get_or starts groups 0, groups);
-  group_at = λ k. some (get_or starts (k - 1) 0, get_or seeds (k - 1) 0);
-  slot_at = λ k. some (get_or tags (k - (1 + groups)) 0);
+  header = Some (get_or starts groups 0, groups);
+  group_at = λ k. Some (get_or starts (k - 1) 0, get_or seeds (k - 1) 0);
+  slot_at = λ k. Some (get_or tags (k - (1 + groups)) 0);
 }
 
 -- The numbers of the groups are in their ranges.

@@ -2,13 +2,11 @@
 -- the image states serves them. Assumes nothing.
 use Rattle.strict.specs.Servable.{Servable}
 use Prim.Native.Nat.{ℕ, zero, suc, ◌+◌, ◌-◌, ◌*◌, ◌≤◌, ◌<◌}
-use Rattle.std.specs.Prelude.{◌≡◌, refl, ◌⊎◌, Bool, true, false, List, [], ◌∷◌, length}
+use Rattle.std.specs.Prelude.{◌≡◌, refl, ◌⊎◌, Bool, true, false, List, [], ◌∷◌, length, Option, None, Some, unwrap_or}
 use Rattle.std.proofs.Common.{sym, ◌∙◌, arith}
 use Rattle.std.proofs.Math.Path.{ap}
 use Rattle.std.proofs.Math.Logic.{inl, inr}
 use Rattle.std.proofs.Math.Bool.{not-eq-not}
-use Rattle.std.proofs.Math.Option
-use Rattle.std.proofs.Math.Option.{Option, none, some}
 use Rattle.std.proofs.Math.ListN.{get_or}
 use borrow.Author.Tests.{eqb-true, not-false}
 use Rattle.refusal.specs.Limits.{seed_max, limit_max, tag_end, unwired}
@@ -68,7 +66,7 @@ module _ (image : List ℕ) (accepted : checking_of image ≡ answered 0) where
   all_fair = fair v sound many
 
   -- Its length and its line 0 are as the numbers say.
-  header-reads : (n : ℕ) × (b : ℕ) × (image_header (line_at 0 image) ≡ some (n, b))
+  header-reads : (n : ℕ) × (b : ℕ) × (image_header (line_at 0 image) ≡ Some (n, b))
   unfolding view_of opening_checks
   header-reads =
       let well = not-false (is_some v.header) (false-of-met _ (passed (opening_checks v) sound.opens 12)) in
@@ -79,8 +77,8 @@ module _ (image : List ℕ) (accepted : checking_of image ≡ answered 0) where
   unfolding view_of count_in groups_in
   header-stated =
       let (n, b, reads) = header-reads in
-      let count-is : count_in v ≡ n = ap (λ (o : Option (ℕ × ℕ)). (Option.get_or o (0, 0)).0) reads in
-      let groups-is : groups_in v ≡ b = ap (λ (o : Option (ℕ × ℕ)). (Option.get_or o (0, 0)).1) reads in
+      let count-is : count_in v ≡ n = ap (λ (o : Option (ℕ × ℕ)). (unwrap_or o (0, 0)).0) reads in
+      let groups-is : groups_in v ≡ b = ap (λ (o : Option (ℕ × ℕ)). (unwrap_or o (0, 0)).1) reads in
       rw (count-is, groups-is) (image-header-only n b (line_at 0 image) reads).0
 
   pub image-long : length image ≡ line_length * (1 + groups_in v + count_in v)
@@ -93,7 +91,7 @@ module _ (image : List ℕ) (accepted : checking_of image ≡ answered 0) where
   pub holds : (j : ℕ) → j < count_in v → HoldsTag v j (slot_in v j)
   holds j lt =
       let (u, reads) = some-of-is_some (v.slot_at (slot_line_in v j)) (sound.slot-lines j lt) in
-      record { slot = lt; tag = reads ∙ ap some (sym (slot_in-reads v j reads)) }
+      record { slot = lt; tag = reads ∙ ap Some (sym (slot_in-reads v j reads)) }
 
   pub slots_apart : (i j : ℕ) → i < count_in v → j < count_in v → slot_in v i ≡ slot_in v j → i ≡ j
   slots_apart i j li lj e = holds-once v sound many (slot_in v j) i j (rw e at (holds i li)) (holds j lj)
@@ -223,8 +221,8 @@ module _ (image : List ℕ) (accepted : checking_of image ≡ answered 0) where
   group-stated g lt =
       let ((start, seed), reads) = some-of-is_some (group_line (line_at (suc g) image)) (sound.group_lines g lt) in
       let (line, small, legal) = group-only start seed (line_at (suc g) image) reads in
-      let start_is : start_in v g ≡ start = ap (λ (o : Option (ℕ × ℕ)). (Option.get_or o (0, 0)).0) reads in
-      let seed-is : seed_in v g ≡ seed = ap (λ (o : Option (ℕ × ℕ)). (Option.get_or o (0, 0)).1) reads in
+      let start_is : start_in v g ≡ start = ap (λ (o : Option (ℕ × ℕ)). (unwrap_or o (0, 0)).0) reads in
+      let seed-is : seed_in v g ≡ seed = ap (λ (o : Option (ℕ × ℕ)). (unwrap_or o (0, 0)).1) reads in
       rw (start_is, seed-is) (line, legal)
 
   -- So does the line of a slot.
@@ -253,9 +251,9 @@ module _ (image : List ℕ) (accepted : checking_of image ≡ answered 0) where
           (rw tag at (holds (start_in v g + at.index) (slot-below g lt at.index below)))
 
 -- Building finds a seed for such tags.
-pub seed-found : (seed : ℕ) (slots : List ℕ) → Servable seed slots → (s : ℕ) × (least_seed (sorted slots) limit_max ≡ some s)
+pub seed-found : (seed : ℕ) (slots : List ℕ) → Servable seed slots → (s : ℕ) × (least_seed (sorted slots) limit_max ≡ Some s)
 seed-found seed slots a = go (least_seed (sorted slots) limit_max) refl
   where
-    go : (o : Option ℕ) → least_seed (sorted slots) limit_max ≡ o → (s : ℕ) × (least_seed (sorted slots) limit_max ≡ some s)
-    go none e = absurd (least_seed-none (sorted slots) limit_max e seed (omega (arith, a.seed-legal)) a.choices a.fills)
-    go (some s) e = (s, e)
+    go : (o : Option ℕ) → least_seed (sorted slots) limit_max ≡ o → (s : ℕ) × (least_seed (sorted slots) limit_max ≡ Some s)
+    go None e = absurd (least_seed-none (sorted slots) limit_max e seed (omega (arith, a.seed-legal)) a.choices a.fills)
+    go (Some s) e = (s, e)

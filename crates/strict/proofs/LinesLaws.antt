@@ -1,12 +1,11 @@
 -- Two checked images that state the same numbers are the same bytes, and two groups that state the same numbers have the same lines.
 -- Assumes nothing.
 use Prim.Native.Nat.{ℕ, zero, suc, ◌+◌, ◌-◌, ◌*◌, ◌<◌}
-use Rattle.std.specs.Prelude.{◌≡◌, Bool, length, drop}
+use Rattle.std.specs.Prelude.{◌≡◌, Bool, length, drop, unwrap_or}
 use Rattle.std.proofs.Math.Path.{refl, ap}
 use Rattle.std.proofs.Common.{sym, ◌∙◌, arith, take-append-drop, length-drop, drop-drop}
 use Rattle.std.proofs.Math.Bool.{true, false}
 use mathlib.Core.List.{List, [], ◌∷◌}
-use Rattle.std.proofs.Math.Option
 use Rattle.std.proofs.Math.Dec.{ltb}
 use Rattle.std.proofs.Math.ListN.{get_or}
 use borrow.Author.Tests.{ltb-true, ltb-false}
@@ -101,10 +100,10 @@ module _ (image other : List ℕ) (a : checking_of image ≡ answered 0) (b : ch
     pub numbers-of-lines : group_lines image g ≡ group_lines other g → (seed_in v g ≡ seed_in w g) × (slots_in v g ≡ slots_in w g)
     unfolding view_of seed_in slot_in slots_in
     numbers-of-lines e = (
-      ap (λ (line : List ℕ). (Option.get_or (group_line line) (0, 0)).1) (ap (λ (lines : List (List ℕ)). get_or lines 0 []) e),
+      ap (λ (line : List ℕ). (unwrap_or (group_line line) (0, 0)).1) (ap (λ (lines : List (List ℕ)). get_or lines 0 []) e),
       rw (← size_is) (up_to-agree (end_in w g - start_in w g) (λ p. slot_in v (start_in v g + p))
           (λ p. slot_in w (start_in w g + p)) (λ p lt.
-          ap (λ (line : List ℕ). Option.get_or (slot_line line) 0)
+          ap (λ (line : List ℕ). unwrap_or (slot_line line) 0)
           (sym (up_to-at (end_in v g - start_in v g) (λ p. line_at (slot_line_in v (start_in v g + p)) image) [] p (rw size_is at lt))
           ∙ ap (λ (lines : List (List ℕ)). get_or lines (suc p) []) e
           ∙ up_to-at (end_in w g - start_in w g) (λ p. line_at (slot_line_in w (start_in w g + p)) other) [] p lt))),

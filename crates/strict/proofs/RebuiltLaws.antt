@@ -1,12 +1,10 @@
 -- The list of the tags that a checked image holds: its groups are the image's, and building with the image's B and the greatest L
 -- answers for it. Assumes nothing.
 use Prim.Native.Nat.{ℕ, zero, suc, ◌+◌, ◌-◌, ◌≤◌, ◌<◌}
-use Rattle.std.specs.Prelude.{◌≡◌, refl, Bool, false, List, length}
+use Rattle.std.specs.Prelude.{◌≡◌, refl, Bool, false, List, length, Option, None, Some, unwrap_or}
 use Rattle.std.proofs.Common.{sym, ◌∙◌, arith, eqb-true}
 use Rattle.std.proofs.Math.Path.{ap}
 use Rattle.std.proofs.Math.Bool.{true, not-eq-not}
-use Rattle.std.proofs.Math.Option
-use Rattle.std.proofs.Math.Option.{Option, none, some}
 use Rattle.std.proofs.Math.Dec.{eqb}
 use Rattle.std.proofs.Math.ListN.{get_or}
 use Rattle.refusal.specs.Limits.{tag_end, groups_max, limit_max, unwired}
@@ -50,9 +48,9 @@ header-range : (image : List ℕ) → 0 < groups_in (view_of image) → (1 ≤ g
 unfolding view_of groups_in
 header-range image some-group = (some-group, go (image_header (line_at 0 image)) refl)
   where
-    go : (o : Option (ℕ × ℕ)) → image_header (line_at 0 image) ≡ o → (Option.get_or o (0, 0)).1 ≤ groups_max
-    go none e = omega arith
-    go (some (n, b)) e = (image-header-only n b (line_at 0 image) e).3
+    go : (o : Option (ℕ × ℕ)) → image_header (line_at 0 image) ≡ o → (unwrap_or o (0, 0)).1 ≤ groups_max
+    go None e = omega arith
+    go (Some (n, b)) e = (image-header-only n b (line_at 0 image) e).3
 
 module _ (image : List ℕ) (accepted : checking_of image ≡ answered 0) where
   abbrev v : View
@@ -171,7 +169,7 @@ module _ (image : List ℕ) (accepted : checking_of image ≡ answered 0) where
   }
 
   -- every group has a seed, since the one that the image states serves,
-  pub held-seeded : first (seedless groups held_tags limit_max) groups ≡ none
+  pub held-seeded : first (seedless groups held_tags limit_max) groups ≡ None
   held-seeded = first_out (seedless groups held_tags limit_max) groups (λ g lt.
       let (s, found) = seed-found (seed_in v g) (slots_in v g) (servable image accepted g lt) in
       rw (held-members g lt, is_some-of-some found))

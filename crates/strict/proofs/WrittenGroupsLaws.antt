@@ -1,9 +1,8 @@
 -- The groups of the image that building writes for a list: seed and slots are those that each group's tags are given, whatever the
 -- limit. Assumes nothing.
-use Rattle.std.specs.Prelude.{ℕ, suc, ◌+◌, ◌-◌, ◌<◌, ◌≡◌, Bool, true, List}
+use Rattle.std.specs.Prelude.{ℕ, suc, ◌+◌, ◌-◌, ◌<◌, ◌≡◌, Bool, true, List, unwrap_or}
 use Rattle.std.proofs.Math.Path.{sym, ap}
 use Rattle.std.proofs.Common.{◌∙◌, arith}
-use Rattle.std.proofs.Math.Option.{get_or}
 use Rattle.std.proofs.Math.ListN.{length}
 use Rattle.refusal.specs.Limits.{tag_end, limit_max}
 use Rattle.refusal.specs.Outcome.{answered}
@@ -69,7 +68,7 @@ module _ (tags : List ℕ) (groups limit : ℕ) (words : (t : ℕ) → occurs t 
       let least = seed-least tags groups limit g
       (first-none (seedless groups tags limit) groups (planning-says tags groups limit planned).1 g lt) in
       let most = (earlier-of-pass tags groups limit (planning-says tags groups limit planned).0).limit-legal.1 in
-      sym (ap (λ o. get_or o 0)
+      sym (ap (λ o. unwrap_or o 0)
       (least_seed-only own limit_max (seed g) (taken own (seed g)) (omega (arith, least.below, most)) least.fills least.passed))
 
   pub written-seed : (g : ℕ) → g < groups → seed_in w g ≡ seed_given (members groups g tags)

@@ -1,6 +1,5 @@
 -- What building gives a group's tags, and whether a group of an image has it. Document 02, §7. Assumes nothing.
-use Rattle.std.specs.Prelude.{ℕ, ◌+◌, ◌-◌, Bool, not, ◌||◌, List, eqb}
-use Rattle.std.proofs.Math.Option.{get_or}
+use Rattle.std.specs.Prelude.{ℕ, ◌+◌, ◌-◌, Bool, not, ◌||◌, List, eqb, unwrap_or}
 use Rattle.refusal.specs.Limits.{limit_max}
 use Rattle.lists.specs.UpTo.{up_to}
 use Rattle.sorting.specs.Sorted.{sorted}
@@ -11,7 +10,7 @@ use Rattle.strict.specs.Same.{same}
 
 -- "each seed the least of all 65,536": what building gives a group's tags, lowest first. No tags are given seed 0.
 unfoldable pub seed_given : List ℕ → ℕ
-seed_given tags = get_or (least_seed tags limit_max) 0
+seed_given tags = unwrap_or (least_seed tags limit_max) 0
 
 -- "each choice by the present order": the slots under that seed.
 unfoldable pub slots_given : List ℕ → List ℕ

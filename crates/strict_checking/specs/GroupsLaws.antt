@@ -1,8 +1,7 @@
 -- The groups of a checked image are those that the cells hold, and they decide the strict check. Assumes nothing.
-use Rattle.std.specs.Prelude.{ℕ, ◌+◌, ◌-◌, ◌≤◌, ◌<◌, ◌≡◌, List, [], ◌∷◌, length, get_or, drop}
+use Rattle.std.specs.Prelude.{ℕ, ◌+◌, ◌-◌, ◌≤◌, ◌<◌, ◌≡◌, List, [], ◌∷◌, length, get_or, drop, None, Some}
 use Rattle.std.proofs.Math.Path.{sym}
 use Rattle.std.proofs.Common.{◌∙◌, arith, length-take, length-drop, ext_get_or, get_or-take, get_or-drop}
-use Rattle.std.proofs.Math.Option.{none, some}
 use Rattle.refusal.specs.Outcome.{Outcome, answered, refused}
 use Rattle.refusal.specs.Checks.{in_order}
 use Rattle.lists.specs.First.{first}
@@ -83,11 +82,11 @@ module _ (image : List ℕ) {groups : ℕ} {starts seeds tags : List ℕ} (accep
       let each = first_cong (not_as_built v) (differs_at starts seeds tags) groups (λ g lt. rw (seed-is g lt, slots-are g lt)) in
       nineteen-decides image accepted ∙ rw (groups-is, each)
 
-  pub decided-at : {g : ℕ} → first (differs_at starts seeds tags) groups ≡ some g → refused 19 g ≡ strict_check_of image
+  pub decided-at : {g : ℕ} → first (differs_at starts seeds tags) groups ≡ Some g → refused 19 g ≡ strict_check_of image
   unfolding in_order
   decided-at found = sym (cells-decide ∙ rw found)
 
-  pub decided-nowhere : first (differs_at starts seeds tags) groups ≡ none → answered 0 ≡ strict_check_of image
+  pub decided-nowhere : first (differs_at starts seeds tags) groups ≡ None → answered 0 ≡ strict_check_of image
   unfolding in_order
   decided-nowhere found = sym (cells-decide ∙ rw found)
 

@@ -6,43 +6,36 @@ mod worked;
 ghost use Rattle.std.specs.Prelude.{◌≡◌};
 ghost use Rattle.refusal.specs.Outcome.{answered};
 ghost use Rattle.lists.specs.First.{first};
-ghost use Rattle.refusal.specs.Answer.{first_meaning};
 ghost use Rattle.opening.specs.Opening.{opening_of};
 ghost use Rattle.checking.specs.Answer.{check_outcome};
 ghost use Rattle.strict.specs.StrictCheck.{strict_check_of};
 ghost use Rattle.strict_condition.specs.Condition.{StrictCondition};
 ghost use Rattle.strict_checking.specs.Groups.{differs_at, AllServable};
 
-use checking::CheckAnswer;
-use opening::Opened;
-use refusal::{First, GROUP_CELLS, Reason, TAG_CELLS};
+use refusal::{GROUP_CELLS, Reason, Refusal, TAG_CELLS};
 use slots::START_CELLS;
 
 // The operation "strict check". It answers as checking does.
-pub fn strict_check(image: &[u8]) -> CheckAnswer
+pub fn strict_check(image: &[u8]) -> Result<(), Refusal>
     ensures answer { check_outcome result ≡ strict_check_of image.now }
     ensures condition { StrictCondition image.now (check_outcome result) }
 {
-    match opening::open(image) {
-        Opened::Counts(count, groups) => strict_opened(image, count, groups),
-        Opened::Refused(refusal) => CheckAnswer::Refused(refusal),
-    }
+    let (count, groups) = opening::open(image)?;
+    strict_opened(image, count, groups)
 }
 
 // The strict check of an image that opens: checking reads its numbers into cells, and the groups are compared there.
-fn strict_opened(opened: &[u8], count: u32, groups: u32) -> CheckAnswer
+fn strict_opened(opened: &[u8], count: u32, groups: u32) -> Result<(), Refusal>
     requires { opening_of opened.now ≡ answered (count, groups) }
     ensures answer { check_outcome result ≡ strict_check_of opened.now }
 {
     let mut starts = [0u32; START_CELLS];
     let mut seeds = [0u32; GROUP_CELLS];
     let mut tags = [0u32; TAG_CELLS];
-    match checking::check_opened(opened, count, groups, &mut starts, &mut seeds, &mut tags) {
-        CheckAnswer::Accepted => match first_not_as_built(&starts, &seeds, &tags, groups) {
-            First::At(g) => checking::refused(Reason::NotAsBuilt, g),
-            First::Nowhere => CheckAnswer::Accepted,
-        },
-        CheckAnswer::Refused(refusal) => CheckAnswer::Refused(refusal),
+    checking::check_opened(opened, count, groups, &mut starts, &mut seeds, &mut tags)?;
+    match first_not_as_built(&starts, &seeds, &tags, groups) {
+        Some(g) => Err(Reason::NotAsBuilt.at(g)),
+        None => Ok(()),
     }
 }
 
@@ -52,19 +45,17 @@ fn first_not_as_built(
     seeds: &[u32; GROUP_CELLS],
     tags: &[u32],
     groups: u32,
-) -> First
+) -> Option<usize>
     requires { AllServable starts.now seeds.now tags.now groups }
-    ensures answer { first_meaning result
+    ensures answer { result
         ≡ first (differs_at starts.now seeds.now tags.now) groups }
 {
-    let mut g = 0;
-    while g < groups as usize {
+    for g in 0..groups as usize {
         let start = starts[g] as usize;
         let end = starts[g + 1] as usize;
         if strict_group::differs(&tags[start..end], seeds[g]) {
-            return First::At(g);
+            return Some(g);
         }
-        g += 1;
     }
-    First::Nowhere
+    None
 }

@@ -5,10 +5,10 @@ ghost use Rattle.checking.specs.Answer.{check_outcome};
 ghost use Rattle.strict_condition.specs.Condition.{Ours};
 
 use crate::strict_check;
-use checking::CheckAnswer;
+use refusal::Refusal;
 
 // No bytes are refused with 11 at place 0.
-pub fn check_nothing() -> CheckAnswer
+pub fn check_nothing() -> Result<(), Refusal>
     ensures answer { check_outcome result ≡ refused 11 0 }
 {
     strict_check(b"")
@@ -19,7 +19,7 @@ pub fn is_ours(image: &[u8]) -> bool
     ensures answer { (result ≡ true) ↔ Ours image.now }
 {
     match strict_check(image) {
-        CheckAnswer::Accepted => true,
-        CheckAnswer::Refused(_) => false,
+        Ok(()) => true,
+        Err(_) => false,
     }
 }

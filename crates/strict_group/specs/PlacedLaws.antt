@@ -1,10 +1,9 @@
 -- Tags that some seed serves are placed by the search through all seeds, and the slots they are given decide whether the group differs.
 -- Assumes nothing.
-use Rattle.std.specs.Prelude.{ℕ, ◌≤◌, ◌≡◌, refl, true, not, List, [], ◌∷◌, ◌++◌, eqb, length, take}
+use Rattle.std.specs.Prelude.{ℕ, ◌≤◌, ◌≡◌, refl, true, not, List, [], ◌∷◌, ◌++◌, eqb, length, take, unwrap_or}
 use Rattle.std.proofs.Common.{sym, ◌∙◌, arith, length-append, take_at, le-ltb, eq-eqb, ne_eqb}
 use Rattle.std.proofs.Math.Path.{ap}
 use Rattle.std.proofs.Math.Bool.{or-false}
-use Rattle.std.proofs.Math.Option.{get_or}
 use Rattle.refusal.specs.Limits.{group_max, limit_max, unwired}
 use Rattle.refusal.proofs.LimitsLaws.{outside-not}
 use Rattle.refusal.specs.Outcome.{Outcome, answered, refused, on_answer}
@@ -39,7 +38,7 @@ module _ {seed : ℕ} {slots : List ℕ} (a : Servable seed slots) where
   unfolding seed_given
   given-least =
       let (s, found) = seed-found seed slots a in
-      rw (← ap (λ o. get_or o 0) found) at (least_seed-some tags limit_max found)
+      rw (← ap (λ o. unwrap_or o 0) found) at (least_seed-some tags limit_max found)
 
   pub tags-few : length tags ≤ group_max
   tags-few = omega (arith, sorted-length slots, a.few)

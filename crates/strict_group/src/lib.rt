@@ -10,7 +10,6 @@ ghost use Rattle.strict.specs.Same.{same};
 ghost use Rattle.strict.specs.AsBuilt.{differs};
 ghost use Rattle.strict.specs.Servable.{Servable};
 
-use placing::PlacingAnswer;
 use refusal::{LIMIT_MAX, MEMBER_CELLS};
 
 // Whether the seed or the slots of one group differ from what building gives its tags.
@@ -33,15 +32,15 @@ fn placed_otherwise(tags: &[u32], seed: u32, slots: &[u32]) -> bool
     requires tags_value { tags.now ≡ sorted slots.now }
     ensures answer { result ≡ differs seed slots.now }
 {
-    let PlacingAnswer::Placed(least, word) = placing::place_group(tags, LIMIT_MAX) else {
+    let Ok(placed) = placing::place_group(tags, LIMIT_MAX) else {
         // Some seed serves the group, the one that the image states, so this case does not come.
         return true;
     };
-    if least != seed {
+    if placed.seed != seed {
         return true;
     }
     let mut given = [0u32; MEMBER_CELLS];
-    slots_differ(tags, seed, word, slots, &mut given[..tags.len()])
+    slots_differ(tags, seed, placed.word, slots, &mut given[..tags.len()])
 }
 
 // Whether the slots differ from those that a group's tags have under this seed and word; there is a cell for each of them.
@@ -58,15 +57,5 @@ fn slots_differ(tags: &[u32], seed: u32, word: u32, slots: &[u32], given: &mut [
 fn same(xs: &[u32], ys: &[u32]) -> bool
     ensures answer { result ≡ same xs.now ys.now }
 {
-    if xs.len() != ys.len() {
-        return false;
-    }
-    let mut i = 0;
-    while i < xs.len() {
-        if xs[i] != ys[i] {
-            return false;
-        }
-        i += 1;
-    }
-    true
+    xs == ys
 }

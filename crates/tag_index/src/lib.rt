@@ -13,11 +13,7 @@ ghost use Rattle.tag_index.specs.Condition3.{PlanCondition3, WriteCondition3, Bu
 ghost use Rattle.calls_group.specs.Place.{place_answer, word_after, PlaceCondition3};
 ghost use Rattle.calls_group.specs.Parts.{parts_answer, PartsAnswerCondition};
 
-use building::BuildAnswer;
-use checking::CheckAnswer;
 use lookup::LookupAnswer;
-use planning::PlanAnswer;
-use writing::WriteAnswer;
 
 // Builds the image of a list text at the beginning of `image`, and answers its length.
 pub fn tag_index_build(text: &[u8], image: &mut [u8]) -> u64
@@ -26,8 +22,8 @@ pub fn tag_index_build(text: &[u8], image: &mut [u8]) -> u64
     ensures condition3 { BuildCondition3 text.now image.old result image.new }
 {
     match from_text::build_from_text(text, image) {
-        BuildAnswer::Built(size) => size as u64,
-        BuildAnswer::Refused(refusal) => answer64::refusal_answer(refusal),
+        Ok(size) => size as u64,
+        Err(refusal) => answer64::refusal_answer(refusal),
     }
 }
 
@@ -38,8 +34,8 @@ pub fn tag_index_plan(text: &[u8], plan: &mut [u32; 513]) -> u64
     ensures condition3 { PlanCondition3 text.now result plan.new }
 {
     match from_text::plan_from_text(text, plan) {
-        PlanAnswer::Planned(groups) => groups as u64,
-        PlanAnswer::Refused(refusal) => answer64::refusal_answer(refusal),
+        Ok(groups) => groups as u64,
+        Err(refusal) => answer64::refusal_answer(refusal),
     }
 }
 
@@ -50,8 +46,8 @@ pub fn tag_index_write(text: &[u8], plan: &[u32; 513], image: &mut [u8]) -> u64
     ensures condition3 { WriteCondition3 text.now plan.now result image.new }
 {
     match from_text::write_from_text(text, plan, image) {
-        WriteAnswer::Written(size) => size as u64,
-        WriteAnswer::Refused(refusal) => answer64::refusal_answer(refusal),
+        Ok(size) => size as u64,
+        Err(refusal) => answer64::refusal_answer(refusal),
     }
 }
 
@@ -60,8 +56,8 @@ pub fn tag_index_check(image: &[u8]) -> u64
     ensures answer { result ≡ check_answer image.now }
 {
     match checking::check_image(image) {
-        CheckAnswer::Accepted => 0,
-        CheckAnswer::Refused(refusal) => answer64::refusal_answer(refusal),
+        Ok(()) => 0,
+        Err(refusal) => answer64::refusal_answer(refusal),
     }
 }
 

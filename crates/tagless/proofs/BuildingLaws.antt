@@ -1,9 +1,8 @@
 -- The ways in which building an index without tags ends, in the order of its checks, and what it leaves. Assumes nothing.
-use Rattle.std.specs.Prelude.{◌≡◌, true, false, length, drop}
+use Rattle.std.specs.Prelude.{◌≡◌, true, false, length, drop, Option, Some, unwrap_or}
 use Rattle.std.proofs.Math.Path.{refl}
 use Rattle.std.proofs.Common.{ap}
 use mathlib.Core.List.{List, ◌++◌}
-use Rattle.std.proofs.Math.Option.{Option, some, get_or}
 use Prim.Native.Nat.{ℕ, ◌<◌}
 use Rattle.std.proofs.lemmas.Bool.{not-false, not-true}
 use Rattle.refusal.specs.Outcome.{answered, refused}
@@ -39,11 +38,11 @@ module _ (tags : List ℕ) (groups limit : ℕ) where
       own : List ℕ
       own = members groups g tags
 
-      go : (taken : ℕ × ℕ) → worded_seed own limit ≡ some taken
+      go : (taken : ℕ × ℕ) → worded_seed own limit ≡ Some taken
           → LeastWordSeed own limit (tagless_seed groups tags limit g) (tagless_word groups tags limit g)
       go (s, w) found =
-          let seed-is : tagless_seed groups tags limit g ≡ s = ap (λ (o : Option (ℕ × ℕ)). (get_or o (0, 0)).0) found in
-          let word-is : tagless_word groups tags limit g ≡ w = ap (λ (o : Option (ℕ × ℕ)). (get_or o (0, 0)).1) found in
+          let seed-is : tagless_seed groups tags limit g ≡ s = ap (λ (o : Option (ℕ × ℕ)). (unwrap_or o (0, 0)).0) found in
+          let word-is : tagless_word groups tags limit g ≡ w = ap (λ (o : Option (ℕ × ℕ)). (unwrap_or o (0, 0)).1) found in
           rw (seed-is, word-is) (worded_seed-some own limit found)
 
   -- and one that is has none under any seed below the limit.
@@ -57,7 +56,7 @@ module _ (tags : List ℕ) (groups limit : ℕ) where
     checks = tagless_building_checks tags groups limit room
 
     -- A check that is met where those before it pass is building's refusal.
-    pub building-refused : (number : ℕ) {place : ℕ} → Pass (checks_before number checks) → met_by checks number ≡ some place
+    pub building-refused : (number : ℕ) {place : ℕ} → Pass (checks_before number checks) → met_by checks number ≡ Some place
         → tagless_building_of tags groups limit room ≡ refused number place
     unfolding tagless_building_of
     building-refused number passes e = met-first checks _ number passes e
@@ -74,7 +73,7 @@ module _ (tags : List ℕ) (groups limit : ℕ) where
 
     -- A refusal 7 comes from the last check, since no earlier one has its number.
     pub building-seven : {g : ℕ} → tagless_building_of tags groups limit room ≡ refused 7 g
-        → first (wordless groups tags limit) groups ≡ some g
+        → first (wordless groups tags limit) groups ≡ Some g
     unfolding tagless_building_of tagless_building_checks
     building-seven e = (met-alone checks 7 refl (in_order-refused checks (tagless_length groups) e)).1
 

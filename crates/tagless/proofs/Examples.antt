@@ -1,8 +1,8 @@
 -- The order of the refusals of building an index without tags, each where the next one is due too, by computation; of 10 and 7
 -- `seven-decides` says it. And the line of a group and a tag's number, by computation. Assumes nothing.
-use Rattle.std.specs.Prelude.{◌≡◌, refl, List, [], ◌∷◌, ℕ, suc, replicate}
+use Rattle.std.specs.Prelude.{◌≡◌, refl, List, [], ◌∷◌, ℕ, suc, replicate, None}
 use Rattle.std.proofs.Common.{◌∙◌}
-use Rattle.std.proofs.Math.Option.{none, or_else}
+use Rattle.std.specs.Option.{option_or}
 use Rattle.std.specs.Int.Count.{ones, ones_in}
 use Rattle.refusal.specs.Limits.{tags_max, group_max, outside}
 use Rattle.refusal.specs.Outcome.{answered, refused}
@@ -26,7 +26,7 @@ use Rattle.tagless.specs.Building.{tagless_room_check, word_check, tagless_build
 
 -- `unfolding computed` opens every definition that these compute through.
 computed : ℕ
-unfolding or_else outside first met_at up_to met in_order product high_part hashed group_of multiplier place_of
+unfolding outside first met_at up_to met in_order product high_part hashed group_of multiplier place_of
     choice_number select members start_of
     not_above starts_unwired ones ones_in parity row_of choice_by tagless_length tagless_number tagless_building_checks tagless_building_of
     tagless_sheet_of
@@ -65,7 +65,7 @@ unfolding computed
 nine-before-ten = refl
 
 -- A buffer of just the length is none too short.
-exact-buffer : tagless_room_check 1 32 ≡ (9, none)
+exact-buffer : tagless_room_check 1 32 ≡ (9, None)
 unfolding computed
 exact-buffer = refl
 

@@ -1,6 +1,5 @@
 -- Building an index without tags, in one call. Document 02, §5. Assumes nothing.
-use Rattle.std.specs.Prelude.{ℕ, Bool, not, List, [], ◌∷◌, ltb, length}
-use Rattle.std.proofs.Math.Option.{get_or}
+use Rattle.std.specs.Prelude.{ℕ, Bool, not, List, [], ◌∷◌, ltb, length, unwrap_or}
 use Rattle.refusal.specs.Outcome.{Outcome, answered}
 use Rattle.lists.specs.First.{first, is_some}
 use Rattle.refusal.specs.Checks.{Check, met, in_order}
@@ -42,10 +41,10 @@ tagless_building_of tags groups limit room = in_order (tagless_building_checks t
 
 -- The seed and the word taken for group g: "the least seed, then the numerically least word. An empty group has 0 and 0."
 unfoldable pub tagless_seed : ℕ → List ℕ → ℕ → ℕ → ℕ
-tagless_seed groups tags limit g = (get_or (worded_seed (members groups g tags) limit) (0, 0)).0
+tagless_seed groups tags limit g = (unwrap_or (worded_seed (members groups g tags) limit) (0, 0)).0
 
 unfoldable pub tagless_word : ℕ → List ℕ → ℕ → ℕ → ℕ
-tagless_word groups tags limit g = (get_or (worded_seed (members groups g tags) limit) (0, 0)).1
+tagless_word groups tags limit g = (unwrap_or (worded_seed (members groups g tags) limit) (0, 0)).1
 
 -- The numbers that the image of a list states, under given seeds and words.
 unfoldable pub tagless_sheet_of : ℕ → List ℕ → (ℕ → ℕ) → (ℕ → ℕ) → TaglessSheet

@@ -1,8 +1,7 @@
 -- What the arrays hold once the tags are ordered, and the seeds and words found. Assumes nothing.
-use Rattle.std.specs.Prelude.{◌≡◌, List, ◌++◌, ℕ, ◌≤◌, ◌<◌, length, get_or, drop}
+use Rattle.std.specs.Prelude.{◌≡◌, List, ◌++◌, ℕ, ◌≤◌, ◌<◌, length, get_or, drop, None}
 use Rattle.std.proofs.Math.Path.{refl}
 use Rattle.std.proofs.Common.{◌∙◌, arith, length-append, length-drop}
-use Rattle.std.proofs.Math.Option.{none}
 use Rattle.std.proofs.Math.ListN.{get_or-append}
 use borrow.Author.Tests.{ltb-false}
 use Rattle.refusal.specs.Limits.{tags_max, groups_max}
@@ -41,7 +40,7 @@ module _ {tags : List ℕ} {groups limit room : ℕ} (a : Admitted tags groups l
   admitted-count = ltb-false tags_max (length tags) (false-of-met _ (passed (checks 10) a.passes 5))
 
   -- With 10 all checks before 7 pass.
-  pub passed-10 : first (too_large groups tags) groups ≡ none → Pass (checks 7)
+  pub passed-10 : first (too_large groups tags) groups ≡ None → Pass (checks 7)
   unfolding tagless_building_checks
   passed-10 small = passed_on (tagless_building_checks tags groups limit room) 10 7 refl a.passes small
 
@@ -122,7 +121,7 @@ module _ {tags : List ℕ} {groups limit : ℕ} {ordered ends : List ℕ} {room 
     written-bytes buffer = rw (written-image, image-length groups tags limit)
 
   -- Where every group has a word the answer is the length.
-  pub size-answered : first (wordless groups tags limit) groups ≡ none
+  pub size-answered : first (wordless groups tags limit) groups ≡ None
       → tagless_building_of tags groups limit room ≡ answered (tagless_length groups)
   unfolding tagless_building_checks
   size-answered every =

@@ -1,10 +1,8 @@
 -- Each step of checking an index without tags, by what the lines read as and by what the earlier steps have passed. Assumes nothing.
-use Rattle.std.specs.Prelude.{◌≡◌, Bool, true, List, ltb, length, get_or, set}
+use Rattle.std.specs.Prelude.{◌≡◌, Bool, true, List, ltb, length, get_or, set, Option, None, Some, unwrap_or}
 use Rattle.std.proofs.Math.Path.{refl, ap}
 use Rattle.std.proofs.Common.{sym, ◌∙◌, add-one, length-set, get_or-set_same}
 use Rattle.std.proofs.Math.Bool.{false, not}
-use Rattle.std.proofs.Math.Option
-use Rattle.std.proofs.Math.Option.{Option, none, some}
 use Prim.Native.Nat.{ℕ, suc, ◌+◌, ◌<◌}
 use native.Mathlib.Omega.{arith}
 use Rattle.std.proofs.Math.Seq.{get_or-set_other}
@@ -34,12 +32,12 @@ module _ (image : List ℕ) {count groups : ℕ} (opens : TaglessOpens image cou
   header_read = go (tagless_view image).header refl
     where
       go : (o : Option (ℕ × ℕ)) → (tagless_view image).header ≡ o → not (is_some o) ≡ false
-      go (some h) e = refl
-      go none e =
-          let empty : groups_in (tagless_view image) ≡ 0 = ap (λ (o : Option (ℕ × ℕ)). (Option.get_or o (0, 0)).1) e in
+      go (Some h) e = refl
+      go None e =
+          let empty : groups_in (tagless_view image) ≡ 0 = ap (λ (o : Option (ℕ × ℕ)). (unwrap_or o (0, 0)).1) e in
           absurd (omega (arith, opens.groups-some, opens.groups-is))
 
-  pub lines_start : first (malformed_in (tagless_view image)) 1 ≡ none
+  pub lines_start : first (malformed_in (tagless_view image)) 1 ≡ None
   lines_start = first_out (malformed_in (tagless_view image)) 1 (λ j lt. let z : j ≡ 0 = omega arith in rw z header_read)
 
   -- The line of group g, by what it reads as.
@@ -60,7 +58,7 @@ module _ (image : List ℕ) {count groups : ℕ} (opens : TaglessOpens image cou
     end = get_or-set_same starts groups count 0 (omega (arith, opens.groups-legal));
   }
 
-  pub starts-turn : (g : ℕ) {start seed : ℕ} (starts : List ℕ) → g < groups → (tagless_view image).group_at (suc g) ≡ some (start, seed)
+  pub starts-turn : (g : ℕ) {start seed : ℕ} (starts : List ℕ) → g < groups → (tagless_view image).group_at (suc g) ≡ Some (start, seed)
       → StartsStored (tagless_view image) count groups (1 + g) starts
       → StartsStored (tagless_view image) count groups (1 + (g + 1)) (set starts g start)
   unfolding start_in
@@ -72,7 +70,7 @@ module _ (image : List ℕ) {count groups : ℕ} (opens : TaglessOpens image cou
       }
     where
       own : start_in (tagless_view image) g ≡ start
-      own = ap (λ (o : Option (ℕ × ℕ)). (Option.get_or o (0, 0)).0) reads
+      own = ap (λ (o : Option (ℕ × ℕ)). (unwrap_or o (0, 0)).0) reads
 
   -- Where every line is read, the cells decide which group is faulty.
   pub faulty-cells : {starts : List ℕ} → StartsStored (tagless_view image) count groups (1 + groups) starts
@@ -109,27 +107,27 @@ module _ (image : List ℕ) where
     opens : TaglessOpens image count groups
     opens = opening-answered image opened
 
-    pub check-line : {k : ℕ} → first (malformed_in (tagless_view image)) (1 + groups) ≡ some k → tagless_checking_of image ≡ refused 12 k
+    pub check-line : {k : ℕ} → first (malformed_in (tagless_view image)) (1 + groups) ≡ Some k → tagless_checking_of image ≡ refused 12 k
     unfolding tagless_checking_of tagless_checks in_order
     check-line e =
         in_order-append (tagless_opening (tagless_view image)) _ _
         ∙ opening-passes image opened _
         ∙ rw (opens.groups-is, e)
 
-    module _ (lines : first (malformed_in (tagless_view image)) (1 + groups) ≡ none) {starts : List ℕ}
+    module _ (lines : first (malformed_in (tagless_view image)) (1 + groups) ≡ None) {starts : List ℕ}
         (stored : StartsStored (tagless_view image) count groups (1 + groups) starts) where
       behind : {o : Option ℕ} → first (faulty_at starts) groups ≡ o
           → first (λ g. faulty g (start_in (tagless_view image) g) (end_in (tagless_view image) g)) (groups_in (tagless_view image)) ≡ o
       behind e = sym (faulty-cells image opens stored) ∙ e
 
-      pub check-faulty : {g : ℕ} → first (faulty_at starts) groups ≡ some g → tagless_checking_of image ≡ refused 13 g
+      pub check-faulty : {g : ℕ} → first (faulty_at starts) groups ≡ Some g → tagless_checking_of image ≡ refused 13 g
       unfolding tagless_checking_of tagless_checks in_order
       check-faulty e =
           in_order-append (tagless_opening (tagless_view image)) _ _
           ∙ opening-passes image opened _
           ∙ rw (behind e, opens.groups-is, lines)
 
-      pub check-accepted : first (faulty_at starts) groups ≡ none → tagless_checking_of image ≡ answered 0
+      pub check-accepted : first (faulty_at starts) groups ≡ None → tagless_checking_of image ≡ answered 0
       unfolding tagless_checking_of tagless_checks in_order
       check-accepted e =
           in_order-append (tagless_opening (tagless_view image)) _ _

@@ -2,7 +2,7 @@
 -- definitions and use none of the record's names but its own. Assumes nothing.
 use Rattle.std.specs.Prelude.{◌≡◌, refl, ◌↔◌, Bool, true, false, not, List, ℕ, suc, ◌+◌, ◌*◌, ◌≤◌, ◌<◌, ltb, length, get_or, take}
 use Rattle.std.proofs.Common.{sym, ◌∙◌, ltb-true, ltb-false}
-use Rattle.std.proofs.Math.Option.{Option, none, some}
+use Rattle.std.specs.Prelude.{Option, None, Some}
 use Rattle.std.proofs.lemmas.Bool.{not-true, not-false}
 use Rattle.refusal.specs.Limits.{tag_end, tags_max, groups_max, limit_max, group_max, unwired}
 use Rattle.refusal.specs.Outcome.{Outcome, answered, refused}
@@ -183,12 +183,12 @@ module _ {tags : List ℕ} {groups limit room : ℕ} {answer : Outcome ℕ} {aft
         let has = every g low.group in low.without has.0 has.1 has.2.0 has.2.1 has.2.2)
 
     -- A group has such a seed, or it has none: the search for the least decides it.
-    seed-of : (g : ℕ) (taken : ℕ × ℕ) → worded_seed (members groups g tags) limit ≡ some taken → Seed tags groups limit g
+    seed-of : (g : ℕ) (taken : ℕ × ℕ) → worded_seed (members groups g tags) limit ≡ Some taken → Seed tags groups limit g
     seed-of g (s, w) e =
         let found = worded_seed-some (members groups g tags) limit e in
         (s, found.below, (w, found.least.below, found.least.fills))
 
-    without-of : (g : ℕ) → worded_seed (members groups g tags) limit ≡ none → (s : ℕ) → s < limit → Nothing tags groups g s
+    without-of : (g : ℕ) → worded_seed (members groups g tags) limit ≡ None → (s : ℕ) → s < limit → Nothing tags groups g s
     without-of g e = worded_seed-none (members groups g tags) limit e
 
     -- Refused for want of a seed exactly when some group has none below the limit with such a word,
@@ -205,10 +205,10 @@ module _ {tags : List ℕ} {groups limit room : ℕ} {answer : Outcome ℕ} {aft
 
         lowest : (g : ℕ) → g < groups → (Seed tags groups limit g → ⊥) → (o : Option ℕ) → first test groups ≡ o
             → (g : ℕ) × (answer ≡ refused 7 g)
-        lowest g lt without none e =
+        lowest g lt without None e =
             let has = some-of-is_some _ (not-false _ (first-none test groups e g lt)) in
             absurd (without (seed-of g has.0 has.1))
-        lowest g lt without (some k) e =
+        lowest g lt without (Some k) e =
             let at = first_some test groups e in (
               k,
               (refused-exactly k).1 (

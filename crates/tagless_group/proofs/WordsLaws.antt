@@ -1,10 +1,10 @@
 -- What the least word and the least seed that has one are, in the words of `WordFills`: callers use these laws, never the search.
 -- Assumes nothing.
-use Rattle.std.specs.Prelude.{ℕ, ◌<◌, ◌≡◌, Bool, true, false, List, [], length}
+use Rattle.std.specs.Prelude.{ℕ, ◌<◌, ◌≡◌, Bool, true, false, List, [], length, Option, None, Some, option_map}
 use Rattle.std.proofs.Math.Path.{refl, sym, ap}
 use Rattle.std.proofs.Common.{◌∙◌, true≢false, arith}
 use Rattle.std.proofs.Math.Bool.{not-eq-not}
-use Rattle.std.proofs.Math.Option.{Option, none, some, map, some-injective, none-ne-some, some-ne-none}
+use Rattle.std.proofs.lemmas.Option.{same_Some, none-some}
 use Rattle.std.proofs.lemmas.List.{length-map}
 use Rattle.refusal.specs.Limits.{tag_end}
 use Rattle.lists.specs.First.{is_some}
@@ -57,7 +57,7 @@ pub record LeastWordSeed (tags : List ℕ) (limit s word : ℕ) : Type 0 where
 module _ (tags : List ℕ) where
   module _ (s : ℕ) where
     -- The word found is the least whose choices fill.
-    pub least_word-some : {word : ℕ} → least_word tags s ≡ some word → LeastWord tags s word
+    pub least_word-some : {word : ℕ} → least_word tags s ≡ Some word → LeastWord tags s word
     unfolding least_word
     least_word-some {word} e =
         let at = first_some (word_fills tags s) tag_end e in
@@ -68,19 +68,19 @@ module _ (tags : List ℕ) where
         }
 
     -- Where none is found, there is no such word.
-    pub least_word-none : least_word tags s ≡ none → NoWord tags s
+    pub least_word-none : least_word tags s ≡ None → NoWord tags s
     unfolding least_word
     least_word-none e word lt = word_fills-false tags s word (first-none (word_fills tags s) tag_end e word lt)
 
     -- The least word whose choices fill is the one found.
-    pub least_word-only : {word : ℕ} → LeastWord tags s word → least_word tags s ≡ some word
+    pub least_word-only : {word : ℕ} → LeastWord tags s word → least_word tags s ≡ Some word
     unfolding least_word
     least_word-only {word} at =
         first_found (word_fills tags s) tag_end word at.below (word_fills-of-fills tags s word at.fills)
         (λ w lt. word_fills-of-none tags s w (at.lower w lt))
 
     -- Where there is no such word, none is found.
-    pub least_word-out : NoWord tags s → least_word tags s ≡ none
+    pub least_word-out : NoWord tags s → least_word tags s ≡ None
     unfolding least_word
     least_word-out out = first_out (word_fills tags s) tag_end (λ w lt. word_fills-of-none tags s w (out w lt))
 
@@ -88,16 +88,16 @@ module _ (tags : List ℕ) where
     pub no_word-of-none_fills : NoneFills tags s → NoWord tags s
     no_word-of-none_fills nothing word lt f = nothing (choices_by word s tags) f
 
-    pub least_word-unfilled : NoneFills tags s → least_word tags s ≡ none
+    pub least_word-unfilled : NoneFills tags s → least_word tags s ≡ None
     least_word-unfilled nothing = least_word-out (no_word-of-none_fills nothing)
 
     -- Some word of 32 bits fills: then there is a least.
-    pub least_word-of-fills : (word : ℕ) → word < tag_end → WordFills tags s word → (w : ℕ) × (least_word tags s ≡ some w)
+    pub least_word-of-fills : (word : ℕ) → word < tag_end → WordFills tags s word → (w : ℕ) × (least_word tags s ≡ Some w)
     least_word-of-fills word lt f = go (least_word tags s) refl
       where
-        go : (o : Option ℕ) → least_word tags s ≡ o → (w : ℕ) × (least_word tags s ≡ some w)
-        go none e = absurd (least_word-none e word lt f)
-        go (some w) e = (w, e)
+        go : (o : Option ℕ) → least_word tags s ≡ o → (w : ℕ) × (least_word tags s ≡ Some w)
+        go None e = absurd (least_word-none e word lt f)
+        go (Some w) e = (w, e)
 
     -- The least word is the one taken.
     pub word_taken-only : {word : ℕ} → LeastWord tags s word → word_taken tags s ≡ word
@@ -114,7 +114,7 @@ module _ (tags : List ℕ) where
 
   module _ (limit : ℕ) where
     -- The seed found is the least that has a word.
-    pub least_word_seed-some : {s : ℕ} → least_word_seed tags limit ≡ some s → (word : ℕ) × LeastWordSeed tags limit s word
+    pub least_word_seed-some : {s : ℕ} → least_word_seed tags limit ≡ Some s → (word : ℕ) × LeastWordSeed tags limit s word
     unfolding least_word_seed
     least_word_seed-some {s} e =
         let at = first_some seed_test limit e in
@@ -128,51 +128,51 @@ module _ (tags : List ℕ) where
         )
 
     -- Where none is found, no seed below the limit has a word.
-    pub least_word_seed-none : least_word_seed tags limit ≡ none → (t : ℕ) → t < limit → NoWord tags t
+    pub least_word_seed-none : least_word_seed tags limit ≡ None → (t : ℕ) → t < limit → NoWord tags t
     unfolding least_word_seed
     least_word_seed-none e t lt = least_word-none t (none-of-is_some (least_word tags t) (first-none seed_test limit e t lt))
 
     -- The least seed below the limit that has a word is the one found.
     pub least_word_seed-only : (s word : ℕ) → s < limit → word < tag_end → WordFills tags s word → ((t : ℕ) → t < s → NoWord tags t)
-        → least_word_seed tags limit ≡ some s
+        → least_word_seed tags limit ≡ Some s
     unfolding least_word_seed
     least_word_seed-only s word below lt f passed =
         first_found seed_test limit s below (is_some-of-some (least_word-of-fills s word lt f).1)
         (λ t before. is_some-of-none (least_word-out t (passed t before)))
 
     -- Where no seed below the limit has a word, none is found.
-    pub least_word_seed-out : ((t : ℕ) → t < limit → NoWord tags t) → least_word_seed tags limit ≡ none
+    pub least_word_seed-out : ((t : ℕ) → t < limit → NoWord tags t) → least_word_seed tags limit ≡ None
     unfolding least_word_seed
     least_word_seed-out out = first_out seed_test limit (λ t lt. is_some-of-none (least_word-out t (out t lt)))
 
     -- The seed and the word found are the group's.
-    pub worded_seed-some : {s word : ℕ} → worded_seed tags limit ≡ some (s, word) → LeastWordSeed tags limit s word
+    pub worded_seed-some : {s word : ℕ} → worded_seed tags limit ≡ Some (s, word) → LeastWordSeed tags limit s word
     unfolding worded_seed
     worded_seed-some {s} {word} e = go (least_word_seed tags limit) refl e
       where
-        go : (o : Option ℕ) → least_word_seed tags limit ≡ o → map with_word o ≡ some (s, word)
+        go : (o : Option ℕ) → least_word_seed tags limit ≡ o → option_map with_word o ≡ Some (s, word)
             → LeastWordSeed tags limit s word
-        go none found e = absurd (none-ne-some (s, word) e)
-        go (some t) found e = let (w, at) = least_word_seed-some found in on w at
+        go None found e = absurd (none-some (s, word) e)
+        go (Some t) found e = let (w, at) = least_word_seed-some found in on w at
           where
             on : (w : ℕ) → LeastWordSeed tags limit t w → LeastWordSeed tags limit s word
             on w at =
-                let both = some-injective (with_word t) (s, word) e in
+                let both = same_Some (with_word t) (s, word) e in
                 let own : w ≡ word = sym (word_taken-only t at.least) ∙ ap (λ p. p.1) both in
                 rw (ap (λ p. p.0) both, own) at at
 
     -- Where none are found, no seed below the limit has a word.
-    pub worded_seed-none : worded_seed tags limit ≡ none → (t : ℕ) → t < limit → NoWord tags t
+    pub worded_seed-none : worded_seed tags limit ≡ None → (t : ℕ) → t < limit → NoWord tags t
     unfolding worded_seed
     worded_seed-none e = go (least_word_seed tags limit) refl e
       where
-        go : (o : Option ℕ) → least_word_seed tags limit ≡ o → map with_word o ≡ none
+        go : (o : Option ℕ) → least_word_seed tags limit ≡ o → option_map with_word o ≡ None
             → (t : ℕ) → t < limit → NoWord tags t
-        go none found e = least_word_seed-none found
-        go (some s) found e = absurd (some-ne-none (s, word_taken tags s) e)
+        go None found e = least_word_seed-none found
+        go (Some s) found e = absurd (none-some (s, word_taken tags s) (sym e))
 
     -- The group's seed and word are those found.
-    pub worded_seed-only : {s word : ℕ} → LeastWordSeed tags limit s word → worded_seed tags limit ≡ some (s, word)
+    pub worded_seed-only : {s word : ℕ} → LeastWordSeed tags limit s word → worded_seed tags limit ≡ Some (s, word)
     unfolding worded_seed
     worded_seed-only {s} {word} at =
         rw (
@@ -181,7 +181,7 @@ module _ (tags : List ℕ) where
         )
 
     -- Where no seed below the limit has a word, none are found.
-    pub worded_seed-out : ((t : ℕ) → t < limit → NoWord tags t) → worded_seed tags limit ≡ none
+    pub worded_seed-out : ((t : ℕ) → t < limit → NoWord tags t) → worded_seed tags limit ≡ None
     unfolding worded_seed
     worded_seed-out out = rw (least_word_seed-out out)
 
@@ -194,14 +194,14 @@ word-empty s word = record { whole = refl; apart = refl }
 least-empty : (s : ℕ) → LeastWord [] s 0
 least-empty s = record { below = omega arith; fills = word-empty s 0; lower = λ w lt f. omega arith }
 
-pub least_word-empty : (s : ℕ) → least_word [] s ≡ some 0
+pub least_word-empty : (s : ℕ) → least_word [] s ≡ Some 0
 least_word-empty s = least_word-only [] s (least-empty s)
 
 -- and "An empty group has 0 and 0".
-pub least_word_seed-empty : (limit : ℕ) → 0 < limit → least_word_seed [] limit ≡ some 0
+pub least_word_seed-empty : (limit : ℕ) → 0 < limit → least_word_seed [] limit ≡ Some 0
 least_word_seed-empty limit below =
     least_word_seed-only [] limit 0 0 below (omega arith) (word-empty 0 0) (λ t lt. absurd (omega arith))
 
-pub worded_seed-empty : (limit : ℕ) → 0 < limit → worded_seed [] limit ≡ some (0, 0)
+pub worded_seed-empty : (limit : ℕ) → 0 < limit → worded_seed [] limit ≡ Some (0, 0)
 worded_seed-empty limit below =
     worded_seed-only [] limit (record { below = below; least = least-empty 0; passed = λ t lt. absurd (omega arith) })

@@ -1,7 +1,6 @@
 -- The seed and the word of one small group, computed from the definitions: seed 0 has no word, and under seed 1 word 0 does not fill.
 -- Assumes nothing.
-use Rattle.std.specs.Prelude.{ℕ, zero, suc, ◌<◌, ◌≡◌, refl, true, false, List, [], ◌∷◌}
-use Rattle.std.proofs.Math.Option.{some, or_else}
+use Rattle.std.specs.Prelude.{ℕ, zero, suc, ◌<◌, ◌≡◌, refl, true, false, List, [], ◌∷◌, Some}
 use Rattle.std.proofs.Common.{arith}
 use Rattle.std.specs.Int.Count.{ones, ones_in}
 use Rattle.lists.specs.First.{is_some}
@@ -23,7 +22,7 @@ group = 1 ∷ 3 ∷ []
 -- Under seed 0 nothing fills.
 seed-0 : feasible (group_under group 0) ≡ false
 unfolding feasible is_some least least_from beginning occurs place_by candidates both_places place_of
-    hashed high_part product multiplier or_else
+    hashed high_part product multiplier
 seed-0 = refl
 
 -- Under seed 1 word 0 does not fill, and word 1 does.
@@ -38,7 +37,7 @@ unfolding word_fills distinct occurs chosen place_by choices_by choice_by parity
 word-1 = refl
 
 -- Below L = 2 the group has seed 1 and word 1.
-pub seed-and-word : worded_seed group 2 ≡ some (1, 1)
+pub seed-and-word : worded_seed group 2 ≡ Some (1, 1)
 seed-and-word =
     worded_seed-only group 2 (record {
       below = omega arith;

@@ -1,8 +1,6 @@
 -- The choices that a word makes for a group's tags, and the group's word and seed in an index without tags: document 02, §5. It is a
 -- word of 32 bits for the whole group, and not a choice word: a bit of it belongs to no tag. Assumes nothing.
-use Rattle.std.specs.Prelude.{ℕ, Bool, List, map, eqb}
-use Rattle.std.proofs.Math.Option
-use Rattle.std.proofs.Math.Option.{Option, get_or}
+use Rattle.std.specs.Prelude.{ℕ, Bool, List, map, eqb, Option, unwrap_or, option_map}
 use Rattle.refusal.specs.Limits.{tag_end}
 use Rattle.lists.specs.First.{first, is_some}
 use Rattle.lists.specs.Occurs.{distinct}
@@ -38,8 +36,8 @@ least_word_seed tags limit = first (λ s. is_some (least_word tags s)) limit
 
 -- The word of a group under a seed that has one: the least. 0 under a seed that has none.
 unfoldable pub word_taken : List ℕ → ℕ → ℕ
-word_taken tags s = get_or (least_word tags s) 0
+word_taken tags s = unwrap_or (least_word tags s) 0
 
 -- "the least seed, then the numerically least word": the two together, where a seed below the limit has a word.
 unfoldable pub worded_seed : List ℕ → ℕ → Option (ℕ × ℕ)
-worded_seed tags limit = Option.map (λ s. (s, word_taken tags s)) (least_word_seed tags limit)
+worded_seed tags limit = option_map (λ s. (s, word_taken tags s)) (least_word_seed tags limit)

@@ -1,7 +1,6 @@
 -- The numbers that lookup gives in the whole case without tags, and images at which two refusals are due, by computation. Assumes nothing.
 use Rattle.std.specs.Prelude.{◌≡◌, refl, ℕ}
 use mathlib.Core.List.{List, [], ◌∷◌, flatten}
-use Rattle.std.proofs.Math.Option.{or_else}
 use Rattle.std.specs.Int.Count.{ones, ones_in}
 use Rattle.refusal.specs.Outcome.{answered, refused}
 use Rattle.lists.specs.First.{first, met_at, is_some}
@@ -25,7 +24,7 @@ use Rattle.tagless_image.specs.Lookup.{tagless_lookup_checks, number_by, tagless
 
 -- `unfolding computed` opens every definition that these compute through.
 computed : ℕ
-unfolding flatten or_else first met_at is_some met in_order product high_part hashed group_of multiplier place_of choice_number leading
+unfolding flatten first met_at is_some met in_order product high_part hashed group_of multiplier place_of choice_number leading
     figure value_from same field line_at pair_line tag_line ended both_fields pair_of tag_of within image_header word_line and_third
     triple_of group_word_line count_in groups_in start_in seed_in end_in faulty candidate_in malformed_in group_checks ones ones_in
     parity row_of choice_by tagless_length group_line_at stated_at tagless_view word_in tagless_opening tagless_checks

@@ -1,9 +1,8 @@
 -- The length of an index without tags, and that each line of it is the line that was put there and reads back. Assumes nothing.
-use Rattle.std.specs.Prelude.{◌≡◌, ℕ, suc, ◌*◌, ◌^◌, ◌≤◌, ◌<◌, length}
+use Rattle.std.specs.Prelude.{◌≡◌, ℕ, suc, ◌*◌, ◌^◌, ◌≤◌, ◌<◌, length, Some}
 use Rattle.std.proofs.Common.{◌∙◌}
 use Rattle.std.proofs.Math.Path.{ap}
 use mathlib.Core.List.{List, [], flatten}
-use Rattle.std.proofs.Math.Option.{some}
 use native.Mathlib.Omega.{arith}
 use Rattle.std.proofs.Math.ListN.{length-append}
 use Rattle.std.proofs.Math.Seq.{take_at, drop-append-add}
@@ -52,11 +51,11 @@ module _ (s : TaglessSheet) where
 
   -- What stands in its range reads back.
   pub header-reads : s.count ≤ tags_max → 1 ≤ s.groups → s.groups ≤ groups_max
-      → image_header (line_at 0 (tagless_bytes s)) ≡ some (s.count, s.groups)
+      → image_header (line_at 0 (tagless_bytes s)) ≡ Some (s.count, s.groups)
   header-reads n one b = rw header_at (image-header-line s.count s.groups n one b)
 
   pub group_reads : (g : ℕ) → g < s.groups → s.start g < 10 ^ 5 → s.seed g ≤ seed_max → s.word g < tag_end
-      → stated_at (tagless_bytes s) (suc g) ≡ some (s.start g, s.seed g, s.word g)
+      → stated_at (tagless_bytes s) (suc g) ≡ Some (s.start g, s.seed g, s.word g)
   unfolding stated_at
   group_reads g lt start seed word = rw (group_at_lem g lt) (word-line (s.start g) (s.seed g) (s.word g) start seed word)
 

@@ -1,8 +1,7 @@
 -- Each step of a lookup in an index without tags, by what the lines read as. Assumes nothing.
-use Rattle.std.specs.Prelude.{◌≡◌, true, false, ◌||◌, List, ltb}
+use Rattle.std.specs.Prelude.{◌≡◌, true, false, ◌||◌, List, ltb, Option, None, Some, unwrap_or, option_map}
 use Rattle.std.proofs.Common.{◌∙◌, arith}
 use Rattle.std.proofs.Math.Path.{ap}
-use Rattle.std.proofs.Math.Option.{Option, none, some, get_or, map}
 use Prim.Native.Nat.{ℕ, suc, ◌+◌, ◌-◌, ◌≤◌, ◌<◌}
 use borrow.Author.Tests.{eq-eqb, ne_eqb}
 use Rattle.refusal.specs.Limits.{unwired}
@@ -28,42 +27,42 @@ use Rattle.tagless_lookup.specs.Steps.{group_outcome}
 
 module _ (image : List ℕ) where
   -- A line as the view has it.
-  line-in : (k : ℕ) {o : Option (ℕ × ℕ × ℕ)} → stated_at image k ≡ o → (tagless_view image).group_at k ≡ map start_and_seed o
+  line-in : (k : ℕ) {o : Option (ℕ × ℕ × ℕ)} → stated_at image k ≡ o → (tagless_view image).group_at k ≡ option_map start_and_seed o
   unfolding tagless_view
   line-in k e = rw e
 
   -- Where a group ends.
   pub end-of-last : {count groups : ℕ} → TaglessOpens image count groups → (g : ℕ) → suc g ≡ groups
-      → end_of (tagless_view image) g ≡ some count
+      → end_of (tagless_view image) g ≡ Some count
   end-of-last opens g last = rw (← opens.count-is) (end-at-count (tagless_view image) g (omega (arith, opens.groups-is)))
 
   pub end-of-malformed : {count groups : ℕ} → TaglessOpens image count groups → (g : ℕ) → suc g < groups
-      → (tagless_view image).group_at (suc (suc g)) ≡ none → end_of (tagless_view image) g ≡ none
+      → (tagless_view image).group_at (suc (suc g)) ≡ None → end_of (tagless_view image) g ≡ None
   end-of-malformed opens g lt = end-at-next (tagless_view image) g (omega (arith, opens.groups-is))
 
   pub end-of-next : {count groups : ℕ} → TaglessOpens image count groups → (g : ℕ) → suc g < groups
-      → {start seed : ℕ} → (tagless_view image).group_at (suc (suc g)) ≡ some (start, seed) → end_of (tagless_view image) g ≡ some start
+      → {start seed : ℕ} → (tagless_view image).group_at (suc (suc g)) ≡ Some (start, seed) → end_of (tagless_view image) g ≡ Some start
   end-of-next opens g lt = end-at-next (tagless_view image) g (omega (arith, opens.groups-is))
 
   -- The group's line, the next one, its fault, and its number.
   module _ (t g : ℕ) where
-    pub own-malformed : stated_at image (suc g) ≡ none → group_outcome image t g ≡ refused 12 (suc g)
+    pub own-malformed : stated_at image (suc g) ≡ None → group_outcome image t g ≡ refused 12 (suc g)
     unfolding group_outcome
     own-malformed e = own-refused (tagless_view image) g _ (line-in (suc g) e)
 
-    module _ {start seed word : ℕ} (stated : stated_at image (suc g) ≡ some (start, seed, word)) where
-      own : (tagless_view image).group_at (suc g) ≡ some (start, seed)
+    module _ {start seed word : ℕ} (stated : stated_at image (suc g) ≡ Some (start, seed, word)) where
+      own : (tagless_view image).group_at (suc g) ≡ Some (start, seed)
       own = line-in (suc g) stated
 
       word-is : word_in image g ≡ word
       unfolding word_in
-      word-is = ap (λ (o : Option (ℕ × ℕ × ℕ)). (get_or o (0, 0, 0)).2) stated
+      word-is = ap (λ (o : Option (ℕ × ℕ × ℕ)). (unwrap_or o (0, 0, 0)).2) stated
 
-      pub next-malformed : end_of (tagless_view image) g ≡ none → group_outcome image t g ≡ refused 12 (suc (suc g))
+      pub next-malformed : end_of (tagless_view image) g ≡ None → group_outcome image t g ≡ refused 12 (suc (suc g))
       unfolding group_outcome
       next-malformed e = next-refused (tagless_view image) g _ own e
 
-      module _ {end : ℕ} (ends : end_of (tagless_view image) g ≡ some end) where
+      module _ {end : ℕ} (ends : end_of (tagless_view image) g ≡ Some end) where
         pub group-faulty : (faulty g start end || ltb (count_in (tagless_view image)) end) ≡ true → group_outcome image t g ≡ refused 13 g
         unfolding group_outcome
         group-faulty e = fault-refused (tagless_view image) g _ own ends e

@@ -8,7 +8,7 @@ ghost use Rattle.refusal.specs.Limits.{seed_max};
 ghost use Rattle.hash.specs.Formula.{group_of, place_of};
 ghost use Rattle.filling.specs.Word.{choice_number};
 ghost use Rattle.lookup.specs.Steps.{end_of};
-ghost use Rattle.lookup.specs.Answer.{lookup_outcome, end_meaning};
+ghost use Rattle.lookup.specs.Answer.{lookup_outcome};
 ghost use Rattle.tagless_group.specs.Words.{choice_by};
 ghost use Rattle.tagless_image.specs.View.{tagless_view};
 ghost use Rattle.tagless_image.specs.Lookup.{tagless_lookup_of};
@@ -16,11 +16,8 @@ ghost use Rattle.tagless_opening.specs.Opening.{TaglessOpens};
 ghost use Rattle.tagless_lookup.specs.Steps.{group_outcome};
 ghost use Rattle.tagless_lookup.specs.Checked.{TaglessCondition2};
 
-use lookup::{GroupEnd, LookupAnswer};
-use opening::Opened;
-use refusal::UNWIRED;
-use text::Pair;
-use word_line::GroupWord;
+use lookup::LookupAnswer;
+use refusal::{Reason, UNWIRED};
 
 // The operation "lookup" for an index without tags. No group line is read for tag 0.
 pub fn tagless_lookup(image: &[u8], tag: u32) -> LookupAnswer
@@ -28,13 +25,13 @@ pub fn tagless_lookup(image: &[u8], tag: u32) -> LookupAnswer
     ensures checked { TaglessCondition2 image.now tag (lookup_outcome result) }
 {
     match tagless_opening::open(image) {
-        Opened::Counts(count, groups) => {
+        Ok((count, groups)) => {
             if tag == UNWIRED {
                 return LookupAnswer::Unknown;
             }
             in_group(image, count, groups, tag)
         }
-        Opened::Refused(refusal) => LookupAnswer::Refused(refusal),
+        Err(refusal) => LookupAnswer::Refused(refusal),
     }
 }
 
@@ -44,17 +41,17 @@ fn in_group(image: &[u8], count: u32, groups: u32, tag: u32) -> LookupAnswer
     ensures answer { lookup_outcome result ≡ group_outcome image.now tag (group_of groups tag) }
 {
     let g = hash::group_of(groups, tag);
-    let GroupWord::Numbers(start, seed, word) = tagless_opening::read_group(image, groups, g) else {
-        return lookup::malformed(1 + g as usize);
+    let Some((start, seed, word)) = tagless_opening::read_group(image, groups, g) else {
+        return LookupAnswer::Refused(Reason::MalformedLine.at(1 + g as usize));
     };
-    let GroupEnd::At(end) = group_end(image, count, groups, g) else {
-        return lookup::malformed(2 + g as usize);
+    let Some(end) = group_end(image, count, groups, g) else {
+        return LookupAnswer::Refused(Reason::MalformedLine.at(2 + g as usize));
     };
     if opening::faulty(g, start, end) {
-        return lookup::faulty(g as usize);
+        return LookupAnswer::Refused(Reason::FaultyGroup.at(g as usize));
     }
     if count < end {
-        return lookup::faulty(g as usize);
+        return LookupAnswer::Refused(Reason::FaultyGroup.at(g as usize));
     }
     if start == end {
         return LookupAnswer::Unknown;
@@ -63,19 +60,17 @@ fn in_group(image: &[u8], count: u32, groups: u32, tag: u32) -> LookupAnswer
 }
 
 // Where group g ends: at the next group's start, or at N after the last group.
-fn group_end(image: &[u8], count: u32, groups: u32, g: u32) -> GroupEnd
+fn group_end(image: &[u8], count: u32, groups: u32, g: u32) -> Option<u32>
     requires tagless_opens { TaglessOpens image.now count groups }
     requires g_lt_groups { g < groups }
-    ensures answer { end_meaning result ≡ end_of (tagless_view image.now) g }
+    ensures answer { result ≡ end_of (tagless_view image.now) g }
 {
     let next = g + 1;
     if next == groups {
-        return GroupEnd::At(count);
+        return Some(count);
     }
-    let Pair::Numbers(start, _) = tagless_opening::read_start_and_seed(image, groups, next) else {
-        return GroupEnd::Malformed;
-    };
-    GroupEnd::At(start)
+    let (start, _) = tagless_opening::read_start_and_seed(image, groups, next)?;
+    Some(start)
 }
 
 // The place of a tag in a group of n tags, by the choice that the group's word makes for it.

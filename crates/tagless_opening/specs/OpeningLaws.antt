@@ -1,8 +1,7 @@
 -- What follows from how an index without tags opens, and the four ways in which it does. Assumes nothing.
-use Rattle.std.specs.Prelude.{◌≡◌, List, ℕ, ◌+◌, ◌*◌, ◌≤◌, ◌<◌, length}
+use Rattle.std.specs.Prelude.{◌≡◌, List, ℕ, ◌+◌, ◌*◌, ◌≤◌, ◌<◌, length, None, Some}
 use Rattle.std.proofs.Math.Path.{sym, ap}
 use Rattle.std.proofs.Common.{◌∙◌}
-use Rattle.std.proofs.Math.Option.{none, some}
 use Rattle.refusal.specs.Outcome.{Outcome, answered, refused}
 use Rattle.refusal.specs.Checks.{in_order}
 use Rattle.text.specs.Line.{line_length, line_at, image_header}
@@ -53,11 +52,11 @@ module _ (image : List ℕ) where
   open-short short = short-for whole (tagless_view image) short
 
   module _ (long : line_length ≤ length image) where
-    pub open-malformed : image_header (line_at 0 image) ≡ none → tagless_opening_of image ≡ refused 12 0
+    pub open-malformed : image_header (line_at 0 image) ≡ None → tagless_opening_of image ≡ refused 12 0
     unfolding tagless_opening_of tagless_view
     open-malformed header = malformed-for whole (tagless_view image) long header
 
-    module _ {n b : ℕ} (header : image_header (line_at 0 image) ≡ some (n, b)) where
+    module _ {n b : ℕ} (header : image_header (line_at 0 image) ≡ Some (n, b)) where
       -- The stated length is 11 + 21 × B.
       whole_is : whole ≡ line_length + word_line_length * b
       unfolding tagless_view tagless_length

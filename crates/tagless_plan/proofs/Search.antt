@@ -1,8 +1,7 @@
 -- What the loop over the groups keeps. Assumes nothing.
 use mathlib.Core.Path.{◌≡◌, refl, ap}
 use mathlib.Core.List.{List}
-use mathlib.Core.Option
-use mathlib.Core.Option.{Option, none, some}
+use Rattle.std.specs.Prelude.{Option, None, Some, unwrap_or}
 use Prim.Native.Nat.{ℕ, ◌+◌, ◌-◌, ◌≤◌, ◌<◌}
 use native.Mathlib.Numerals.{add-one}
 use native.Mathlib.Omega.{arith}
@@ -44,13 +43,13 @@ module _ {groups limit : ℕ} {ordered ends seeds₀ words₀ seeds words : List
   own e = rw (part-is p.parts g done.start_is) at e
 
   -- The seed and the word found are the group's,
-  pub found_turn : {seed word : ℕ} → worded_seed part limit ≡ some (seed, word) → g < length seeds₀ → g < length words₀
+  pub found_turn : {seed word : ℕ} → worded_seed part limit ≡ Some (seed, word) → g < length seeds₀ → g < length words₀
       → FoundUpTo groups ordered ends limit seeds₀ words₀ (set seeds g seed) (set words g word) (get_or ends g 0) (g + 1)
   unfolding unworded is_some part_start part_seed part_word stored_up_to
   found_turn {seed} {word} e cell cell' =
       let found = own e in
-      let seed-is : part_seed ordered ends limit g ≡ seed = ap (λ (o : Option (ℕ × ℕ)). (Option.get_or o (0, 0)).0) found in
-      let word-is : part_word ordered ends limit g ≡ word = ap (λ (o : Option (ℕ × ℕ)). (Option.get_or o (0, 0)).1) found in
+      let seed-is : part_seed ordered ends limit g ≡ seed = ap (λ (o : Option (ℕ × ℕ)). (unwrap_or o (0, 0)).0) found in
+      let word-is : part_word ordered ends limit g ≡ word = ap (λ (o : Option (ℕ × ℕ)). (unwrap_or o (0, 0)).1) found in
       record {
         searched = searched-turn (unworded ordered ends limit) 0 groups g done.searched lt (rw found);
         start_is = rw (add-one g);
@@ -59,7 +58,7 @@ module _ {groups limit : ℕ} {ordered ends seeds₀ words₀ seeds words : List
       }
 
   -- and where there is none, this is the lowest group without one.
-  pub found-without : worded_seed part limit ≡ none → first (unworded ordered ends limit) groups ≡ some g
+  pub found-without : worded_seed part limit ≡ None → first (unworded ordered ends limit) groups ≡ Some g
   unfolding unworded is_some
   found-without e = searched-found (unworded ordered ends limit) 0 groups g done.searched lt (rw (own e))
 
@@ -69,7 +68,7 @@ module _ {groups limit : ℕ} {ordered ends seeds₀ words₀ seeds words : List
 -- When all groups are searched, each has its seed and word.
 pub found-done : {groups limit : ℕ} {ordered ends seeds₀ words₀ seeds words : List ℕ} {start g : ℕ}
     → FoundUpTo groups ordered ends limit seeds₀ words₀ seeds words start g → groups ≤ g
-    → (first (unworded ordered ends limit) groups ≡ none) × (seeds ≡ stored_up_to (part_seed ordered ends limit) groups seeds₀)
+    → (first (unworded ordered ends limit) groups ≡ None) × (seeds ≡ stored_up_to (part_seed ordered ends limit) groups seeds₀)
     × (words ≡ stored_up_to (part_word ordered ends limit) groups words₀)
 found-done {groups} {limit} {ordered} {ends} {g = g} done past =
     let all : g ≡ groups = omega (arith, done.searched.within) in (

@@ -1,6 +1,5 @@
 -- The seeds and words of all groups, found part by part. Assumes nothing.
-use Rattle.std.specs.Prelude.{Bool, not, List, ◌++◌, ℕ, ◌≤◌, ◌<◌, length, drop}
-use Rattle.std.proofs.Math.Option.{get_or}
+use Rattle.std.specs.Prelude.{Bool, not, List, ◌++◌, ℕ, ◌≤◌, ◌<◌, length, drop, unwrap_or}
 use Rattle.refusal.specs.Limits.{group_max, limit_max}
 use Rattle.lists.specs.First.{is_some}
 use Rattle.lists.specs.UpTo.{up_to}
@@ -13,10 +12,10 @@ unworded ordered ends limit g = not (is_some (worded_seed (part_of ordered ends 
 
 -- The least seed for the group's part and its least word, 0 and 0 where there is none.
 unfoldable pub part_seed : List ℕ → List ℕ → ℕ → ℕ → ℕ
-part_seed ordered ends limit g = (get_or (worded_seed (part_of ordered ends g) limit) (0, 0)).0
+part_seed ordered ends limit g = (unwrap_or (worded_seed (part_of ordered ends g) limit) (0, 0)).0
 
 unfoldable pub part_word : List ℕ → List ℕ → ℕ → ℕ → ℕ
-part_word ordered ends limit g = (get_or (worded_seed (part_of ordered ends g) limit) (0, 0)).1
+part_word ordered ends limit g = (unwrap_or (worded_seed (part_of ordered ends g) limit) (0, 0)).1
 
 -- The cells with the numbers of the groups below `found`; the other cells are as they were.
 unfoldable pub stored_up_to : (ℕ → ℕ) → ℕ → List ℕ → List ℕ

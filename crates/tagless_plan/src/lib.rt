@@ -3,15 +3,12 @@
 
 mod worked;
 
-ghost use Rattle.std.specs.Prelude.{◌≡◌, ◌≤◌, length};
-ghost use Rattle.std.proofs.Math.Option.{get_or};
+ghost use Rattle.std.specs.Prelude.{◌≡◌, ◌≤◌, length, unwrap_or};
 ghost use Rattle.refusal.specs.Limits.{groups_max};
 ghost use Rattle.lists.specs.First.{first};
-ghost use Rattle.refusal.specs.Answer.{first_meaning};
 ghost use Rattle.tagless_plan.specs.Words.{unworded, part_seed, part_word, stored_up_to, Searchable};
 
-use refusal::{First, GROUP_CELLS};
-use tagless_seeds::WordedSeed;
+use refusal::GROUP_CELLS;
 
 // Fills the seeds and words group by group, each from its own part of the ordered tags, and stops at the lowest group for which no seed
 // has a word.
@@ -22,29 +19,25 @@ pub fn word_groups(
     limit: u32,
     seeds: &mut [u32; GROUP_CELLS],
     words: &mut [u32; GROUP_CELLS],
-) -> First
+) -> Option<usize>
     requires searchable { Searchable groups ordered.now ends.now limit × (groups ≤ groups_max) }
     requires seeds_len { (length seeds.old ≡ groups_max) × (length words.old ≡ groups_max) }
-    ensures answer { first_meaning result ≡ first (unworded ordered.now ends.now limit) groups }
+    ensures answer { result ≡ first (unworded ordered.now ends.now limit) groups }
     ensures seeds { seeds.new ≡ stored_up_to (part_seed ordered.now ends.now limit)
-        (get_or (first_meaning result) groups) seeds.old }
+        (unwrap_or result groups) seeds.old }
     ensures words { words.new ≡ stored_up_to (part_word ordered.now ends.now limit)
-        (get_or (first_meaning result) groups) words.old }
+        (unwrap_or result groups) words.old }
 {
     let mut start = 0;
-    let mut g = 0;
-    while g < groups {
+    for g in 0..groups {
         let end = ends[g];
-        let WordedSeed::At(seed, word) = tagless_seeds::least_worded_seed(
-            &ordered[start..end],
-            limit,
-        ) else {
-            return First::At(g);
+        let Some((seed, word)) = tagless_seeds::least_worded_seed(&ordered[start..end], limit)
+        else {
+            return Some(g);
         };
         seeds[g] = seed;
         words[g] = word;
         start = end;
-        g += 1;
     }
-    First::Nowhere
+    None
 }

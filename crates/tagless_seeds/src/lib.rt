@@ -8,47 +8,30 @@ mod worked;
 ghost use Rattle.std.specs.Prelude.{◌≡◌, ◌≤◌, length};
 ghost use Rattle.refusal.specs.Limits.{group_max, limit_max, seed_max};
 ghost use Rattle.tagless_group.specs.Words.{worded_seed};
-ghost use Rattle.tagless_seeds.specs.Answer.{worded_meaning};
 ghost use Rattle.tagless_seeds.specs.Rows.{rows_into};
 
-use equations::Word;
 use refusal::MEMBER_CELLS;
-
-// The least seed that has a word, and its least word.
-#[derive(Drop)]
-pub enum WordedSeed {
-    At(u32, u32),
-    Nothing,
-}
 
 // The least seed below `limit` under which some word of 32 bits makes the group's places all different, and the numerically least such
 // word.
-pub fn least_worded_seed(tags: &[u32], limit: u32) -> WordedSeed
+pub fn least_worded_seed(tags: &[u32], limit: u32) -> Option<(u32, u32)>
     requires { (length tags.now ≤ group_max) × (limit ≤ limit_max) }
-    ensures answer { worded_meaning result ≡ worded_seed tags.now limit }
+    ensures answer { result ≡ worded_seed tags.now limit }
 {
     let n = seeds::size_of(tags);
     let mut places = [0u32; places::PLACE_CELLS];
     let mut rows = [0u32; MEMBER_CELLS];
-    let mut next = 0;
-    'seeds: loop {
-        if next >= limit {
-            return WordedSeed::Nothing;
-        }
-        let s = next;
-        next += 1;
-        let occupied = seeds::lay_out(tags, n, s, &mut places);
+    for seed in 0..limit {
+        let occupied = seeds::lay_out(tags, n, seed, &mut places);
         if u32::count_ones(occupied) != n {
-            continue 'seeds;
+            continue;
         }
-        lay_rows(tags, s, &mut rows);
-        match equations::least_word(n as usize, &places, &rows) {
-            Word::Least(word) => {
-                return WordedSeed::At(s, word);
-            }
-            Word::Nothing => {}
+        lay_rows(tags, seed, &mut rows);
+        if let Some(word) = equations::least_word(n as usize, &places, &rows) {
+            return Some((seed, word));
         }
     }
+    None
 }
 
 // Lays out the rows of the tags under a seed, from cell 0 on. The other cells stay.
@@ -57,9 +40,7 @@ fn lay_rows(tags: &[u32], seed: u32, rows: &mut [u32; MEMBER_CELLS])
     ensures cells { rows.new ≡ rows_into tags.now seed rows.old }
 {
     let multiplier = tagless_group::row_multiplier(seed);
-    let mut i = 0;
-    while i < tags.len() {
-        rows[i] = hash::wrapping_multiply(multiplier, tags[i]);
-        i += 1;
+    for (i, &tag) in tags.iter().enumerate() {
+        rows[i] = hash::wrapping_multiply(multiplier, tag);
     }
 }

@@ -1,11 +1,9 @@
 -- An index without tags made from seeds and words that fill every group: checking accepts it, and lookup answers the tags' numbers.
 -- Assumes nothing.
-use Rattle.std.specs.Prelude.{◌≡◌, refl, ◌⊎◌, Bool, List, [], ◌∷◌, map, eqb}
+use Rattle.std.specs.Prelude.{◌≡◌, refl, ◌⊎◌, Bool, List, [], ◌∷◌, map, eqb, Option, Some, unwrap_or, option_map}
 use Rattle.std.proofs.Common.{sym, ◌∙◌, inl, inr, arith}
 use Rattle.std.proofs.Math.Path.{ap}
 use Rattle.std.proofs.Math.Bool.{true, false, cond}
-use Rattle.std.proofs.Math.Option
-use Rattle.std.proofs.Math.Option.{Option, some, get_or}
 use Prim.Native.Nat.{ℕ, suc, ◌+◌, ◌-◌, ◌*◌, ◌≤◌, ◌<◌}
 use Rattle.std.proofs.Math.Dec.{ltb}
 use Rattle.std.proofs.Math.ListN.{length}
@@ -94,20 +92,20 @@ module _ {tags : List ℕ} {groups : ℕ} {seed word : ℕ → ℕ} (range : InR
   v = tagless_view image
 
   -- The lines read back.
-  header_is : v.header ≡ some (length tags, groups)
+  header_is : v.header ≡ Some (length tags, groups)
   unfolding tagless_view tagless_sheet_of
   header_is = header-reads sheet range.count-legal range.groups-legal.0 range.groups-legal.1
 
-  stated-is : (g : ℕ) → g < groups → stated_at image (suc g) ≡ some (start_of groups g tags, seed g, word g)
+  stated-is : (g : ℕ) → g < groups → stated_at image (suc g) ≡ Some (start_of groups g tags, seed g, word g)
   unfolding tagless_sheet_of
   stated-is g lt =
       let before = start-before groups g groups tags (omega arith) in
       let all = start-all groups tags range.groups-legal.0 in
       group_reads sheet g lt (omega (arith, range.count-legal)) (range.seeds-legal g lt) (range.words-legal g lt)
 
-  line-is : (g : ℕ) → g < groups → v.group_at (suc g) ≡ some (start_of groups g tags, seed g)
+  line-is : (g : ℕ) → g < groups → v.group_at (suc g) ≡ Some (start_of groups g tags, seed g)
   unfolding tagless_view
-  line-is g lt = ap (Option.map start_and_seed) (stated-is g lt)
+  line-is g lt = ap (option_map start_and_seed) (stated-is g lt)
 
   pub built-count : count_in v ≡ length tags
   unfolding count_in
@@ -119,15 +117,15 @@ module _ {tags : List ℕ} {groups : ℕ} {seed word : ℕ → ℕ} (range : InR
 
   start_is : (g : ℕ) → g < groups → start_in v g ≡ start_of groups g tags
   unfolding start_in
-  start_is g lt = ap (λ (o : Option (ℕ × ℕ)). (get_or o (0, 0)).0) (line-is g lt)
+  start_is g lt = ap (λ (o : Option (ℕ × ℕ)). (unwrap_or o (0, 0)).0) (line-is g lt)
 
   seed-is : (g : ℕ) → g < groups → seed_in v g ≡ seed g
   unfolding seed_in
-  seed-is g lt = ap (λ (o : Option (ℕ × ℕ)). (get_or o (0, 0)).1) (line-is g lt)
+  seed-is g lt = ap (λ (o : Option (ℕ × ℕ)). (unwrap_or o (0, 0)).1) (line-is g lt)
 
   word-is : (g : ℕ) → g < groups → word_in image g ≡ word g
   unfolding word_in
-  word-is g lt = ap (λ (o : Option (ℕ × ℕ × ℕ)). (get_or o (0, 0, 0)).2) (stated-is g lt)
+  word-is g lt = ap (λ (o : Option (ℕ × ℕ × ℕ)). (unwrap_or o (0, 0, 0)).2) (stated-is g lt)
 
   end_is : (g : ℕ) → g < groups → end_in v g ≡ start_of groups (suc g) tags
   unfolding end_in

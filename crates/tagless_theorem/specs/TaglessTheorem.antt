@@ -1,10 +1,9 @@
 -- The condition of an index without tags holds of building as it is defined, for every list, group count, seed limit and buffer.
 -- Assumes nothing.
-use Rattle.std.specs.Prelude.{◌≡◌, refl, Bool, true, List, [], ◌∷◌, ℕ, ◌+◌, ◌*◌, ◌<◌, length, take, drop}
+use Rattle.std.specs.Prelude.{◌≡◌, refl, Bool, true, List, [], ◌∷◌, ℕ, ◌+◌, ◌*◌, ◌<◌, length, take, drop, Option, None, Some}
 use Rattle.std.proofs.Math.Path.{sym}
 use Rattle.std.proofs.Common.{◌∙◌, arith, take_at}
 use Rattle.std.proofs.Math.Bool.{false}
-use Rattle.std.proofs.Math.Option.{Option, none, some}
 use borrow.Author.Tests.{ltb-false, le-ltb}
 use Rattle.refusal.specs.Limits.{tags_max, groups_max, group_max, limit_max, unwired}
 use Rattle.refusal.proofs.LimitsLaws.{outside-not, inside}
@@ -44,7 +43,7 @@ use Rattle.tagless_theorem.specs.BuiltLaws.{built-number, built-count}
 
 module _ (tags : List ℕ) (groups limit : ℕ) where
   -- The lowest group without a word, by the first index that passes the test.
-  lowest-of-first : (g : ℕ) → first (wordless groups tags limit) groups ≡ some g → LowestWithoutWord groups tags limit g
+  lowest-of-first : (g : ℕ) → first (wordless groups tags limit) groups ≡ Some g → LowestWithoutWord groups tags limit g
   lowest-of-first g e =
       let at = first_some (wordless groups tags limit) groups e in
       record {
@@ -61,7 +60,7 @@ module _ (tags : List ℕ) (groups limit : ℕ) where
             };
       }
 
-  first-of-lowest : (g : ℕ) → LowestWithoutWord groups tags limit g → first (wordless groups tags limit) groups ≡ some g
+  first-of-lowest : (g : ℕ) → LowestWithoutWord groups tags limit g → first (wordless groups tags limit) groups ≡ Some g
   first-of-lowest g low =
       first_found (wordless groups tags limit) groups g low.group (here (wordless groups tags limit g) refl)
       (λ h lt. there h (low.lower h lt) (wordless groups tags limit h) refl)
@@ -78,12 +77,12 @@ module _ (tags : List ℕ) (groups limit : ℕ) where
           absurd (none-taken tags groups limit h e has.seed has.below has.word has.word_below has.fills)
       there h has false e = e
 
-  none-of-never : ((g : ℕ) → LowestWithoutWord groups tags limit g → ⊥) → first (wordless groups tags limit) groups ≡ none
+  none-of-never : ((g : ℕ) → LowestWithoutWord groups tags limit g → ⊥) → first (wordless groups tags limit) groups ≡ None
   none-of-never never = go (first (wordless groups tags limit) groups) refl
     where
-      go : (o : Option ℕ) → first (wordless groups tags limit) groups ≡ o → first (wordless groups tags limit) groups ≡ none
-      go none e = e
-      go (some g) e = absurd (never g (lowest-of-first g e))
+      go : (o : Option ℕ) → first (wordless groups tags limit) groups ≡ o → first (wordless groups tags limit) groups ≡ None
+      go None e = e
+      go (Some g) e = absurd (never g (lowest-of-first g e))
 
   module _ (room : ℕ) where
     abbrev checks : List Check
@@ -123,11 +122,11 @@ module _ (tags : List ℕ) (groups limit : ℕ) where
         }
 
     -- The checks pass where those before 7 do and 7 does.
-    pass_all : Pass (checks_before 7 checks) → first (wordless groups tags limit) groups ≡ none → Pass checks
+    pass_all : Pass (checks_before 7 checks) → first (wordless groups tags limit) groups ≡ None → Pass checks
     unfolding tagless_building_checks
     pass_all front seven = pass-append (checks_before 7 checks) (word_check groups tags limit ∷ []) front (seven, tt)
 
-    pub seven-due : TaglessEarlierChecks tags groups limit room → {g : ℕ} → first (wordless groups tags limit) groups ≡ some g
+    pub seven-due : TaglessEarlierChecks tags groups limit room → {g : ℕ} → first (wordless groups tags limit) groups ≡ Some g
         → tagless_building_of tags groups limit room ≡ refused 7 g
     unfolding tagless_building_checks
     seven-due h e = building-refused tags groups limit room 7 (pass-of-earlier h) e

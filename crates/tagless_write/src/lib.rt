@@ -28,10 +28,8 @@ pub fn write_lines(
         ++ drop (tagless_length groups) buffer.old }
 {
     lines::write_pair_line(buffer, 0, count as u32, groups as u32);
-    let mut g = 0;
-    while g < groups {
+    for g in 0..groups {
         write_group(ends, seeds, words, groups, count, g, buffer);
-        g += 1;
     }
 }
 

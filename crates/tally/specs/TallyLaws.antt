@@ -1,9 +1,8 @@
 -- What is counted by the labels in an array is counted by the parts of the graph. Assumes nothing.
-use Rattle.std.specs.Prelude.{ℕ, ◌+◌, ◌≤◌, ◌<◌, ◌≡◌, ◌≢◌, Bool, ◌&&◌, not, List, eqb, set, replicate}
+use Rattle.std.specs.Prelude.{ℕ, ◌+◌, ◌≤◌, ◌<◌, ◌≡◌, ◌≢◌, Bool, ◌&&◌, not, List, eqb, set, replicate, Option, None, Some}
 use Rattle.std.proofs.Math.Path.{refl, sym, ap}
 use Rattle.std.proofs.Common.{◌∙◌, arith, get_or-set_same}
 use Rattle.std.proofs.Math.Bool.{true, false, and_self, and-false}
-use Rattle.std.proofs.Math.Option.{Option, none, some}
 use Rattle.std.proofs.Math.Decide.{ℕ_discrete}
 use Rattle.std.proofs.Math.ListN.{length, get_or, length-set, length-replicate, get_or-replicate}
 use Rattle.std.proofs.Math.Seq.{get_or-set_other, ext_get_or}
@@ -202,10 +201,10 @@ module _ {places labels : List ℕ} {n : ℕ} (g : Graphed places labels n) wher
       where
         go : (o : Option ℕ) → first (more counted edged) n ≡ o
             → is_some (first (more counted edged) n) ≡ is_some (first (more_edges n keys) n)
-        go none out =
+        go None out =
             is_some-of-none out
             ∙ sym (more-none (λ v lt. ltb-false (get_or counted v 0) (get_or edged v 0) (first-none (more counted edged) n out v lt)))
-        go (some v) found =
+        go (Some v) found =
             let at = first_some (more counted edged) n found in
             is_some-of-some found ∙ sym (more-found v at.below (ltb-true (get_or counted v 0) (get_or edged v 0) at.holds))
 

@@ -17,11 +17,8 @@ pub fn count_points(labels: &[u8; MEMBER_CELLS], n: usize, counts: &mut [u8; MEM
     requires { (n ≤ group_max) × LabelsBelow labels.now group_max × (counts.old ≡ replicate group_max 0) }
     ensures cells { counts.new ≡ by_label (labelled labels.now) (points n) }
 {
-    let mut place = 0;
-    while place < n {
-        let label = labels[place] as usize;
-        counts[label] += 1;
-        place += 1;
+    for &label in &labels[..n] {
+        counts[label as usize] += 1;
     }
 }
 
@@ -35,15 +32,13 @@ pub fn count_edges(
     requires { (n ≤ group_max) × Candidates places.now n × LabelsBelow labels.now group_max × (counts.old ≡ replicate group_max 0) }
     ensures cells { counts.new ≡ by_label (both_labelled labels.now) (keys_of n places.now) }
 {
-    let mut i = 0;
-    while i < n {
+    for i in 0..n {
         let first = places[i] as usize;
         let second = places[MEMBER_CELLS + i] as usize;
         let label = labels[first];
         if labels[second] == label {
             counts[label as usize] += 1;
         }
-        i += 1;
     }
 }
 
@@ -52,15 +47,7 @@ pub fn part_count(counts: &[u8; MEMBER_CELLS], n: usize) -> u32
     requires { n ≤ group_max }
     ensures answer { result ≡ how_many (positive counts.now) (points n) }
 {
-    let mut count = 0;
-    let mut v = 0;
-    while v < n {
-        if 0 < counts[v] {
-            count += 1;
-        }
-        v += 1;
-    }
-    count
+    counts[..n].iter().filter(|&&count| 0 < count).count() as u32
 }
 
 // Has any label more edges than points?
@@ -68,12 +55,8 @@ pub fn has_more_edges(points: &[u8; MEMBER_CELLS], edges: &[u8; MEMBER_CELLS], n
     requires { n ≤ group_max }
     ensures answer { result ≡ is_some (first (more points.now edges.now) n) }
 {
-    let mut v = 0;
-    while v < n {
-        if points[v] < edges[v] {
-            return true;
-        }
-        v += 1;
-    }
-    false
+    points[..n]
+        .iter()
+        .zip(&edges[..n])
+        .any(|(point_count, edge_count)| point_count < edge_count)
 }

@@ -1,9 +1,9 @@
 -- A field reads as n exactly where its bytes are n's figure and n fits its columns. Assumes nothing.
 use Rattle.std.specs.Prelude.{◌≡◌, ℕ, zero, suc, ◌+◌, ◌-◌, ◌*◌, ◌/◌, ◌%◌, ◌^◌, ◌<◌, Bool, true, false, cond, ◌↔◌, List, [], ◌∷◌, ◌++◌}
-use Rattle.std.specs.Prelude.{length, ◌==◌, ◌≢◌, refl}
+use Rattle.std.specs.Prelude.{length, ◌==◌, ◌≢◌, refl, None, Some}
 use Rattle.std.proofs.Common.{◌∙◌, ap, arith, pow-suc, eq-eqb, eqb-true}
 use Rattle.std.proofs.lemmas.Bool.{false≢true}
-use Rattle.std.proofs.Math.Option.{none, some, none-ne-some}
+use Rattle.std.proofs.lemmas.Option.{none-some}
 use Rattle.lists.proofs.BoolLaws.{some-of-cond}
 use Rattle.lists.proofs.FirstLaws.{none-of-never}
 use Rattle.text.specs.Figure.{leading, figure}
@@ -69,30 +69,35 @@ figure-below zero n = omega arith
 figure-below (suc w) n = rw value-append (omega (arith, pow-suc 10 w, leading-below w (n / 10)))
 
 -- The two directions.
-pub field-figure : (w n : ℕ) → 0 < w → n < 10 ^ w → field w (figure w n) ≡ some n
+pub field-figure : (w n : ℕ) → 0 < w → n < 10 ^ w → field w (figure w n) ≡ Some n
 unfolding field
 field-figure zero n p h = absurd (omega arith)
 field-figure (suc w) n p h = rw (figure-value (suc w) n h, same_refl)
 
-pub field-only : (w n : ℕ) (bs : List ℕ) → field w bs ≡ some n → (bs ≡ figure w n) × (n < 10 ^ w)
+pub field-only : (w n : ℕ) (bs : List ℕ) → field w bs ≡ Some n → (bs ≡ figure w n) × (n < 10 ^ w)
 unfolding field
-field-only zero n bs e = absurd (none-ne-some n e)
+field-only zero n bs e = absurd (none-some n e)
 field-only (suc w) n bs e =
     let (f, g) = some-of-cond (same bs (figure (suc w) (value_from 0 bs))) _ e in
     let v : value_from 0 bs ≡ n = cc in
     let i : bs ≡ figure (suc w) n = rw v at (same_true bs (figure (suc w) (value_from 0 bs)) f) in
     (i, rw (← i, v) at (figure-below (suc w) n))
 
-pub field_is : (w n : ℕ) (bs : List ℕ) → 0 < w → (field w bs ≡ some n) ↔ ((bs ≡ figure w n) × (n < 10 ^ w))
+pub field_is : (w n : ℕ) (bs : List ℕ) → 0 < w → (field w bs ≡ Some n) ↔ ((bs ≡ figure w n) × (n < 10 ^ w))
 field_is w n bs p = (field-only w n bs, λ h. rw h.0 (field-figure w n p h.1))
 
 -- Where it is no figure it is none.
-pub field-none : (w : ℕ) (bs : List ℕ) → ((n : ℕ) → n < 10 ^ w → bs ≢ figure w n) → field w bs ≡ none
+pub field-none : (w : ℕ) (bs : List ℕ) → ((n : ℕ) → n < 10 ^ w → bs ≢ figure w n) → field w bs ≡ None
 field-none w bs never = none-of-never (field w bs) (λ n e. let h = field-only w n bs e in never n h.1 h.0)
 
 -- So of bytes that are not as many as its columns.
-pub field-other-length : (w : ℕ) (bs : List ℕ) → (length bs ≢ w) → field w bs ≡ none
+pub field-other-length : (w : ℕ) (bs : List ℕ) → (length bs ≢ w) → field w bs ≡ None
 field-other-length w bs other = field-none w bs (λ n h e. other (ap length e ∙ figure-length w n))
+
+-- A field without columns is none, whatever is there.
+pub field-blank : (bs : List ℕ) → field 0 bs ≡ None
+unfolding field
+field-blank bs = refl
 
 -- A figure is of one number.
 pub figure-unique : (w m n : ℕ) → m < 10 ^ w → n < 10 ^ w → figure w m ≡ figure w n → m ≡ n

@@ -1,11 +1,11 @@
 -- A line reads as its numbers exactly where it is their line; and line k of joined lines is the k-th of them. Assumes nothing.
 use Rattle.std.specs.Prelude.{◌≡◌, ℕ, zero, suc, ◌+◌, ◌*◌, ◌^◌, ◌<◌, ◌≤◌, Bool, true, false, ◌&&◌, leb, List, [], ◌∷◌, ◌++◌, length, take}
-use Rattle.std.specs.Prelude.{drop, ◌==◌, ◌≢◌, nat_le, nat_lt, slice_index, slice_index_or}
+use Rattle.std.specs.Prelude.{drop, ◌==◌, ◌≢◌, nat_le, nat_lt, slice_index, slice_index_or, Option, None, Some}
 use Rattle.std.proofs.Math.Path.{sym}
 use Rattle.std.proofs.Common.{◌∙◌, ap, arith, mul-zero, lit<, take_at, drop_at, take_all, take-suc, take-add, eq-eqb, ne_eqb, eqb-true}
 use Rattle.std.proofs.Common.{le-leb, leb-true, lt-ltb, ltb-true}
 use mathlib.Core.List.{append_assoc, flatten}
-use Rattle.std.proofs.Math.Option.{Option, none, some, none-ne-some, some-injective}
+use Rattle.std.proofs.lemmas.Option.{none-some, same_Some}
 use Rattle.std.proofs.Math.Nat.{mul-suc}
 use Rattle.std.proofs.Math.ListN.{length-append}
 use Rattle.std.proofs.lemmas.List.{get_or_at}
@@ -55,13 +55,13 @@ module _ (columns : ℕ) where
       ∙ rw (eqb-true (slice_index line columns) 10 h.1)
 
 -- A line reads as a tag exactly where it is the tag's line, of ten digits at most.
-pub tag-line : (t : ℕ) → t < 10 ^ 10 → tag_of (tag_line t) ≡ some t
+pub tag-line : (t : ℕ) → t < 10 ^ 10 → tag_of (tag_line t) ≡ Some t
 unfolding tag_of tag_line ended
 tag-line t h =
     let n : length (figure 10 t) ≡ 10 = figure-length 10 t in
     rw (ended-line 10 (figure 10 t) n, take_at (figure 10 t) (10 ∷ []) 10 n) (field-figure 10 t (lit< tt) h)
 
-pub tag-only : (t : ℕ) (line : List ℕ) → tag_of line ≡ some t → (line ≡ tag_line t) × (t < 10 ^ 10)
+pub tag-only : (t : ℕ) (line : List ℕ) → tag_of line ≡ Some t → (line ≡ tag_line t) × (t < 10 ^ 10)
 unfolding tag_of tag_line ended
 tag-only t line e =
     let (f, g) = some-of-cond (ended line) _ e in
@@ -69,7 +69,7 @@ tag-only t line e =
     (ended-only 10 line f ∙ rw h.0, h.1)
 
 -- A line reads as two numbers exactly where it is their line, each of five digits at most.
-pub pair_line_lem : (a b : ℕ) → a < 10 ^ 5 → b < 10 ^ 5 → pair_of (pair_line a b) ≡ some (a, b)
+pub pair_line_lem : (a b : ℕ) → a < 10 ^ 5 → b < 10 ^ 5 → pair_of (pair_line a b) ≡ Some (a, b)
 unfolding pair_of pair_line both_fields ended
 pair_line_lem a b h k =
     let n : length (figure 5 a) ≡ 5 = figure-length 5 a in
@@ -84,15 +84,15 @@ pair_line_lem a b h k =
       field-figure 5 b (lit< tt) k,
     )
 
-pub both-only : (x y : Option ℕ) (a b : ℕ) → both_fields x y ≡ some (a, b) → (x ≡ some a) × (y ≡ some b)
+pub both-only : (x y : Option ℕ) (a b : ℕ) → both_fields x y ≡ Some (a, b) → (x ≡ Some a) × (y ≡ Some b)
 unfolding both_fields
-both-only none y a b e = (cc, cc)
-both-only (some c) none a b e = (cc, cc)
-both-only (some c) (some d) a b e =
-    let i = some-injective (c, d) (a, b) e in
-    (ap (λ (x : ℕ × ℕ). some x.0) i, ap (λ (x : ℕ × ℕ). some x.1) i)
+both-only None y a b e = (cc, cc)
+both-only (Some c) None a b e = (cc, cc)
+both-only (Some c) (Some d) a b e =
+    let i = same_Some (c, d) (a, b) e in
+    (ap (λ (x : ℕ × ℕ). Some x.0) i, ap (λ (x : ℕ × ℕ). Some x.1) i)
 
-pub pair-only : (a b : ℕ) (line : List ℕ) → pair_of line ≡ some (a, b) → (line ≡ pair_line a b) × (a < 10 ^ 5) × (b < 10 ^ 5)
+pub pair-only : (a b : ℕ) (line : List ℕ) → pair_of line ≡ Some (a, b) → (line ≡ pair_line a b) × (a < 10 ^ 5) × (b < 10 ^ 5)
 unfolding pair_of pair_line ended
 pair-only a b line e =
     let (f, g) = some-of-cond (ended line) _ e in
@@ -102,21 +102,21 @@ pair-only a b line e =
     (ended-only 10 line f ∙ rw (take-add 5 5 line, p.0, q.0), p.1, q.1)
 
 -- Only what is within a range reads as itself.
-pub within-only : {A : Type 0} (in_range : A → Bool) (a : A) (o : Option A) → within in_range o ≡ some a
-    → (o ≡ some a) × (in_range a ≡ true)
+pub within-only : {A : Type 0} (in_range : A → Bool) (a : A) (o : Option A) → within in_range o ≡ Some a
+    → (o ≡ Some a) × (in_range a ≡ true)
 unfolding within
-within-only in_range a none e = absurd (none-ne-some a e)
-within-only in_range a (some c) e =
-    let (f, i) = some-of-cond (in_range c) (some c) e in
-    (i, rw (some-injective c a i) at f)
+within-only in_range a None e = absurd (none-some a e)
+within-only in_range a (Some c) e =
+    let (f, i) = some-of-cond (in_range c) (Some c) e in
+    (i, rw (same_Some c a i) at f)
 
 -- Each kind of line, in both directions.
-pub image-header-line : (n b : ℕ) → n ≤ tags_max → 1 ≤ b → b ≤ groups_max → image_header (pair_line n b) ≡ some (n, b)
+pub image-header-line : (n b : ℕ) → n ≤ tags_max → 1 ≤ b → b ≤ groups_max → image_header (pair_line n b) ≡ Some (n, b)
 unfolding image_header within
 image-header-line n b h j k =
     rw (pair_line_lem n b (omega arith) (omega arith), le-leb n tags_max h, le-leb 1 b j, le-leb b groups_max k)
 
-pub image-header-only : (n b : ℕ) (line : List ℕ) → image_header line ≡ some (n, b)
+pub image-header-only : (n b : ℕ) (line : List ℕ) → image_header line ≡ Some (n, b)
     → (line ≡ pair_line n b) × (n ≤ tags_max) × (1 ≤ b) × (b ≤ groups_max)
 unfolding image_header
 image-header-only n b line e =
@@ -125,11 +125,11 @@ image-header-only n b line e =
     let s = both-of-and (nat_le 1 b) (nat_le b groups_max) r.1 in
     ((pair-only n b line h.0).0, leb-true n tags_max r.0, leb-true 1 b s.0, leb-true b groups_max s.1)
 
-pub group-line : (start seed : ℕ) → start < 10 ^ 5 → seed ≤ seed_max → group_line (pair_line start seed) ≡ some (start, seed)
+pub group-line : (start seed : ℕ) → start < 10 ^ 5 → seed ≤ seed_max → group_line (pair_line start seed) ≡ Some (start, seed)
 unfolding group_line within
 group-line start seed h k = rw (pair_line_lem start seed h (omega arith), le-leb seed seed_max k)
 
-pub group-only : (start seed : ℕ) (line : List ℕ) → group_line line ≡ some (start, seed)
+pub group-only : (start seed : ℕ) (line : List ℕ) → group_line line ≡ Some (start, seed)
     → (line ≡ pair_line start seed) × (start < 10 ^ 5) × (seed ≤ seed_max)
 unfolding group_line
 group-only start seed line e =
@@ -137,36 +137,36 @@ group-only start seed line e =
     let p = pair-only start seed line h.0 in
     (p.0, p.1, leb-true seed seed_max h.1)
 
-pub list-header-line : (b l : ℕ) → b < 10 ^ 5 → l < 10 ^ 5 → list_header (pair_line b l) ≡ some (b, l)
+pub list-header-line : (b l : ℕ) → b < 10 ^ 5 → l < 10 ^ 5 → list_header (pair_line b l) ≡ Some (b, l)
 unfolding list_header
 list-header-line b l = pair_line_lem b l
 
-pub list-header-only : (b l : ℕ) (line : List ℕ) → list_header line ≡ some (b, l) → (line ≡ pair_line b l) × (b < 10 ^ 5) × (l < 10 ^ 5)
+pub list-header-only : (b l : ℕ) (line : List ℕ) → list_header line ≡ Some (b, l) → (line ≡ pair_line b l) × (b < 10 ^ 5) × (l < 10 ^ 5)
 unfolding list_header
 list-header-only b l line = pair-only b l line
 
-tag-within-line : (t : ℕ) → t < tag_end → within (λ t. nat_lt t tag_end) (tag_of (tag_line t)) ≡ some t
+tag-within-line : (t : ℕ) → t < tag_end → within (λ t. nat_lt t tag_end) (tag_of (tag_line t)) ≡ Some t
 unfolding within
 tag-within-line t h = rw (tag-line t (omega arith), lt-ltb t tag_end h)
 
-tag-within-only : (t : ℕ) (line : List ℕ) → within (λ t. nat_lt t tag_end) (tag_of line) ≡ some t → (line ≡ tag_line t) × (t < tag_end)
+tag-within-only : (t : ℕ) (line : List ℕ) → within (λ t. nat_lt t tag_end) (tag_of line) ≡ Some t → (line ≡ tag_line t) × (t < tag_end)
 tag-within-only t line e =
     let h = within-only (λ t. nat_lt t tag_end) t (tag_of line) e in
     ((tag-only t line h.0).0, ltb-true t tag_end h.1)
 
-pub slot-line : (t : ℕ) → t < tag_end → slot_line (tag_line t) ≡ some t
+pub slot-line : (t : ℕ) → t < tag_end → slot_line (tag_line t) ≡ Some t
 unfolding slot_line
 slot-line t = tag-within-line t
 
-pub slot-only : (t : ℕ) (line : List ℕ) → slot_line line ≡ some t → (line ≡ tag_line t) × (t < tag_end)
+pub slot-only : (t : ℕ) (line : List ℕ) → slot_line line ≡ Some t → (line ≡ tag_line t) × (t < tag_end)
 unfolding slot_line
 slot-only t line = tag-within-only t line
 
-pub list-line : (t : ℕ) → t < tag_end → list_line (tag_line t) ≡ some t
+pub list-line : (t : ℕ) → t < tag_end → list_line (tag_line t) ≡ Some t
 unfolding list_line
 list-line t = tag-within-line t
 
-pub list-only : (t : ℕ) (line : List ℕ) → list_line line ≡ some t → (line ≡ tag_line t) × (t < tag_end)
+pub list-only : (t : ℕ) (line : List ℕ) → list_line line ≡ Some t → (line ≡ tag_line t) × (t < tag_end)
 unfolding list_line
 list-only t line = tag-within-only t line
 
@@ -214,3 +214,8 @@ pub line_reads : {A B : Type 0} (meaning : A → B) (reads : List ℕ → B) (by
     → reads (line_at i bytes) ≡ meaning case
 unfolding line_at
 line_reads meaning reads bytes k i promised told same = rw (← same, ← told) (sym promised)
+
+-- The same where the answer is what the line reads as.
+pub line_said : {B : Type 0} (reads : List ℕ → B) (bytes : List ℕ) (k i : ℕ) {answer case : B}
+    → answer ≡ reads (take line_length (drop (line_length * k) bytes)) → answer ≡ case → k ≡ i → reads (line_at i bytes) ≡ case
+line_said reads bytes k i promised told same = line_reads (λ b. b) reads bytes k i promised told same

@@ -1,9 +1,7 @@
 -- Lines of one tag each, one by one, and the cells that their tags are stored in, cell by cell. Assumes nothing.
-use Rattle.std.specs.Prelude.{◌≡◌, ℕ, zero, suc, ◌+◌, ◌<◌, ◌≤◌, min, true, false, not, List, [], ◌∷◌, ◌++◌, length, take, drop}
-use Rattle.std.specs.Prelude.{slice_index, slice_set, refl}
+use Rattle.std.specs.Prelude.{◌≡◌, ℕ, zero, suc, ◌+◌, ◌<◌, ◌≤◌, min, true, false, not, List, [], ◌∷◌, ◌++◌, length, take, drop, None, Some}
+use Rattle.std.specs.Prelude.{slice_index, slice_set, refl, unwrap_or}
 use Rattle.std.proofs.Common.{◌∙◌, ap, add-zero, add-one, take_at, le-leb}
-use Rattle.std.proofs.Math.Option
-use Rattle.std.proofs.Math.Option.{none, some}
 use native.Mathlib.Omega.{arith}
 use Rattle.std.proofs.Math.ListN.{length-append, length-drop, get_or-append}
 use Rattle.std.proofs.lemmas.Bool.{lt-leb}
@@ -31,11 +29,11 @@ module _ (from : ℕ) (bytes : List ℕ) (k : ℕ) where
   unfolding no_tag_from
   line-at le = rw (le-leb from k le)
 
-  pub line-tag : {t : ℕ} → from ≤ k → tag_in (line_at k bytes) ≡ some t → no_tag_from from bytes k ≡ false
+  pub line-tag : {t : ℕ} → from ≤ k → tag_in (line_at k bytes) ≡ Some t → no_tag_from from bytes k ≡ false
   unfolding no_tag_from is_some
   line-tag le e = rw (le-leb from k le, e)
 
-  pub line-no-tag : from ≤ k → tag_in (line_at k bytes) ≡ none → no_tag_from from bytes k ≡ true
+  pub line-no-tag : from ≤ k → tag_in (line_at k bytes) ≡ None → no_tag_from from bytes k ≡ true
   unfolding no_tag_from is_some
   line-no-tag le e = rw (le-leb from k le, e)
 
@@ -46,7 +44,7 @@ tags_on-length zero k bytes = refl
 tags_on-length (suc count) k bytes = ap suc (tags_on-length count (suc k) bytes)
 
 tags_on-more : (count k : ℕ) (bytes : List ℕ)
-    → tags_on (suc count) k bytes ≡ tags_on count k bytes ++ (Option.get_or (tag_in (line_at (k + count) bytes)) 0 ∷ [])
+    → tags_on (suc count) k bytes ≡ tags_on count k bytes ++ (unwrap_or (tag_in (line_at (k + count) bytes)) 0 ∷ [])
 unfolding tags_on
 tags_on-more zero k bytes = rw add-zero
 tags_on-more (suc count) k bytes =
@@ -54,7 +52,7 @@ tags_on-more (suc count) k bytes =
     rw (e, tags_on-more count (suc k) bytes)
 
 tags_on-at : (count k j : ℕ) (bytes : List ℕ) → j < count
-    → slice_index (tags_on count k bytes) j ≡ Option.get_or (tag_in (line_at (k + j) bytes)) 0
+    → slice_index (tags_on count k bytes) j ≡ unwrap_or (tag_in (line_at (k + j) bytes)) 0
 unfolding tags_on
 tags_on-at zero k j bytes lt = absurd (omega arith)
 tags_on-at (suc count) k zero bytes lt = rw add-zero
@@ -65,7 +63,7 @@ tags_on-at (suc count) k (suc j) bytes lt =
 module _ (k : ℕ) (bytes before : List ℕ) where
   pub stored-none : tags_stored 0 k bytes before ≡ before
   unfolding tags_stored tags_on
-  stored-none = let none : min 0 (length before) ≡ 0 = omega arith in rw none
+  stored-none = let None : min 0 (length before) ≡ 0 = omega arith in rw None
 
   -- Where there is a cell for each tag.
   pub stored-fits : (n : ℕ) → n ≤ length before → tags_stored n k bytes before ≡ tags_on n k bytes ++ drop n before
@@ -80,7 +78,7 @@ module _ (k : ℕ) (bytes before : List ℕ) where
       ∙ omega (arith, tags_on-length stored k bytes, length-drop stored before)
 
   -- One tag more: it goes into its cell, or there is none for it.
-  pub stored_more : (n t : ℕ) → n < length before → t ≡ Option.get_or (tag_in (line_at (k + n) bytes)) 0
+  pub stored_more : (n t : ℕ) → n < length before → t ≡ unwrap_or (tag_in (line_at (k + n) bytes)) 0
       → slice_set (tags_stored n k bytes before) n t ≡ tags_stored (n + 1) k bytes before
   stored_more n t lt value =
       let more : tags_on (n + 1) k bytes ≡ tags_on n k bytes ++ (t ∷ []) =
@@ -98,7 +96,7 @@ module _ (k : ℕ) (bytes before : List ℕ) where
 
   -- A cell holds the tag of its line.
   pub stored-holds : (n : ℕ) → n ≤ length before → (j : ℕ) → j < n
-      → slice_index (tags_stored n k bytes before) j ≡ Option.get_or (tag_in (line_at (k + j) bytes)) 0
+      → slice_index (tags_stored n k bytes before) j ≡ unwrap_or (tag_in (line_at (k + j) bytes)) 0
   stored-holds n fits j lt =
       rw (stored-fits n fits)
       (get_or-append (tags_on n k bytes) (drop n before) 0 j (omega (arith, tags_on-length n k bytes)) ∙ tags_on-at n k j bytes lt)

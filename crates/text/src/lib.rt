@@ -1,51 +1,21 @@
 // Columns, fields and the content of one line: what they read as. `lines` reads and writes the lines of a text.
 #![tactic(auto)]
 
-ghost use Rattle.std.specs.Prelude.{◌≡◌, ◌+◌, ◌*◌, ◌%◌, ◌<◌, ◌≤◌, [], ◌∷◌, length, take, drop, nat_lt};
+ghost use Rattle.std.specs.Prelude.{◌≡◌, ◌+◌, ◌*◌, ◌%◌, ◌<◌, ◌≤◌, [], ◌∷◌, length, take, drop, nat_lt, option_copied};
 ghost use Rattle.refusal.specs.Limits.{tag_end};
 ghost use Rattle.columns.specs.Columns.{column_of, leading_from};
 ghost use Rattle.text.specs.Field.{field};
+ghost use Rattle.text.specs.Part.{part};
 ghost use Rattle.text.specs.Line.{line_length, both_fields, pair_of, tag_of, within};
-ghost use Rattle.text.specs.Answer.{field_meaning, pair_meaning, tag_meaning};
-
-use columns::{Eight, Fours};
 
 // Every line is ten columns and a line feed.
 pub const LINE_LENGTH: usize = 11;
 
-// What a field reads as.
-#[derive(Drop)]
-pub enum Field {
-    Value(u64),
-    Malformed,
-}
-
-// What a line of two fields reads as.
-#[derive(Drop)]
-pub enum Pair {
-    Numbers(u32, u32),
-    Malformed,
-}
-
-// What a line of one tag reads as.
-#[derive(Drop)]
-pub enum Tag {
-    Number(u32),
-    Malformed,
-}
-
-// The bytes from `at` on, so many, or as many as there are.
-fn part(bytes: &[u8], at: usize, width: usize) -> &[u8]
-    ensures answer { result.now ≡ take width (drop at bytes.now) }
+// So many bytes from `at` on, where the text has them all.
+pub fn part(bytes: &[u8], at: usize, width: usize) -> Option<&[u8]>
+    ensures answer { option_copied result ≡ part at width bytes.now }
 {
-    if bytes.len() < at {
-        return &bytes[..0];
-    }
-    if bytes.len() - at < width {
-        return &bytes[at..];
-    }
-    let end = at + width;
-    &bytes[at..end]
+    bytes.get(at..)?.get(..width)
 }
 
 // The byte of a leading column with this digit, where the number up to it is n: a space as long as that is 0.
@@ -57,19 +27,19 @@ fn column_byte(n: u64, digit: u8) -> u8
 }
 
 // One leading column more behind those of v. Its digit is the lower half of its byte.
-fn leading_column(v: u64, byte: u8) -> Field
+fn leading_column(v: u64, byte: u8) -> Option<u64>
     requires { v < 1000000000000000000 }
-    ensures answer { field_meaning result ≡ leading_from v (byte ∷ []) }
+    ensures answer { result ≡ leading_from v (byte ∷ []) }
 {
     let low = byte % 16;
     if 10 <= low {
-        return Field::Malformed;
+        return None;
     }
     let n = v * 10 + low as u64;
     if byte != column_byte(n, low) {
-        return Field::Malformed;
+        return None;
     }
-    Field::Value(n)
+    Some(n)
 }
 
 // How far a line's last column and its line feed, as one number, are above '0' and a line feed: at most 9 where they are a digit
@@ -81,90 +51,71 @@ fn end_digit(byte: u8, feed: u8) -> u16
 }
 
 // The number in a field of so many columns that starts at a byte of the text. A field that the text cuts off is malformed.
-pub fn read_field(bytes: &[u8], at: usize, width: usize) -> Field
+pub fn read_field(bytes: &[u8], at: usize, width: usize) -> Option<u64>
     requires { width ≤ 19 }
-    ensures answer { field_meaning result ≡ field width (take width (drop at bytes.now)) }
+    ensures answer { result ≡ field width (take width (drop at bytes.now)) }
 {
-    let s = part(bytes, at, width);
-    if s.len() != width {
-        return Field::Malformed;
-    }
-    if width == 0 {
-        return Field::Malformed;
-    }
+    let (last, leading) = part(bytes, at, width)?.split_last()?;
     let mut v = 0;
-    let mut i = 0;
-    while i < width - 1 {
-        let Field::Value(n) = leading_column(v, s[i]) else {
-            return Field::Malformed;
-        };
-        v = n;
-        i += 1;
+    for &byte in leading {
+        v = leading_column(v, byte)?;
     }
-    let digit = std::num::wrapping_sub_u8(s[i], b'0');
+    let digit = std::num::wrapping_sub_u8(*last, b'0');
     if 10 <= digit {
-        return Field::Malformed;
+        return None;
     }
-    Field::Value(v * 10 + digit as u64)
+    Some(v * 10 + digit as u64)
 }
 
 // The two fields of five columns of a whole line, in any range.
-pub fn pair_in(line: &[u8]) -> Pair
+pub fn pair_in(line: &[u8]) -> Option<(u32, u32)>
     requires { length line.now ≡ line_length }
-    ensures answer { pair_meaning result ≡ pair_of line.now }
+    ensures answer { result ≡ pair_of line.now }
 {
-    let Fours::Numbers(m, n) = columns::two_fours(line) else {
-        return Pair::Malformed;
-    };
+    let (m, n) = columns::two_fours(line)?;
     let first = std::num::wrapping_sub_u8(line[4], b'0');
     if 10 <= first {
-        return Pair::Malformed;
+        return None;
     }
     let second = end_digit(line[9], line[10]);
     if 10 <= second {
-        return Pair::Malformed;
+        return None;
     }
-    Pair::Numbers(m as u32 * 10 + first as u32, n as u32 * 10 + second as u32)
+    Some((m as u32 * 10 + first as u32, n as u32 * 10 + second as u32))
 }
 
 // Two fields of five columns, with nothing asked of what stands behind them.
-pub fn fields_in(line: &[u8]) -> Pair
+pub fn fields_in(line: &[u8]) -> Option<(u32, u32)>
     requires { length line.now ≡ 10 }
-    ensures answer { pair_meaning result
+    ensures answer { result
         ≡ both_fields (field 5 (take 5 line.now)) (field 5 (take 5 (drop 5 line.now))) }
 {
-    let Fours::Numbers(m, n) = columns::two_fours(line) else {
-        return Pair::Malformed;
-    };
+    let (m, n) = columns::two_fours(line)?;
     let first = std::num::wrapping_sub_u8(line[4], b'0');
     if 10 <= first {
-        return Pair::Malformed;
+        return None;
     }
     let second = std::num::wrapping_sub_u8(line[9], b'0');
     if 10 <= second {
-        return Pair::Malformed;
+        return None;
     }
-    Pair::Numbers(m as u32 * 10 + first as u32, n as u32 * 10 + second as u32)
+    Some((m as u32 * 10 + first as u32, n as u32 * 10 + second as u32))
 }
 
 // The one tag of a whole line: the number in its ten columns, if it fits 32 bits.
-pub fn tag_in(line: &[u8]) -> Tag
+pub fn tag_in(line: &[u8]) -> Option<u32>
     requires { length line.now ≡ line_length }
-    ensures answer { tag_meaning result ≡ within (λ t. nat_lt t tag_end) (tag_of line.now) }
+    ensures answer { result ≡ within (λ t. nat_lt t tag_end) (tag_of line.now) }
 {
-    let Eight::Number(eight) = columns::eight_columns(line) else {
-        return Tag::Malformed;
-    };
-    let Field::Value(nine) = leading_column(eight as u64, line[8]) else {
-        return Tag::Malformed;
-    };
+    let eight = columns::eight_columns(line)?;
+    let nine = leading_column(eight as u64, line[8])?;
     let last = end_digit(line[9], line[10]);
     if 10 <= last {
-        return Tag::Malformed;
+        return None;
     }
     let t = nine * 10 + last as u64;
     if refusal::TAG_MAX < t {
-        return Tag::Malformed;
+        return None;
     }
-    Tag::Number(t as u32)
+    Some(t as u32)
 }

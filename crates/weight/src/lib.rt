@@ -33,12 +33,10 @@ fn weight_of(word: u32, count: u32) -> u64
     ensures answer { result ≡ word_weight count word }
 {
     let mut sum: u64 = 0;
-    let mut i: u32 = 0;
-    while i < count {
+    for i in 0..count {
         if choice_at(word, i) == 1 {
             sum += key_weight(i);
         }
-        i += 1;
     }
     sum
 }

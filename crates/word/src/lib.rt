@@ -4,14 +4,11 @@
 ghost use Rattle.std.specs.Prelude.{◌≡◌, ◌≤◌, length};
 ghost use Rattle.refusal.specs.Limits.{group_max, seed_max};
 ghost use Rattle.group.specs.Group.{word_under};
-ghost use Rattle.sequence.specs.Answer.{choices_meaning};
-
-use sequence::Choices;
 
 // The word under this one seed, or that nothing fills: no other seed is tried.
-pub fn word_under(tags: &[u32], seed: u32) -> Choices
+pub fn word_under(tags: &[u32], seed: u32) -> Option<u32>
     requires { (length tags.now ≤ group_max) × (seed ≤ seed_max) }
-    ensures answer { choices_meaning result ≡ word_under tags.now seed }
+    ensures answer { result ≡ word_under tags.now seed }
 {
     let mut places = [0u32; places::PLACE_CELLS];
     candidates::candidate_places(tags, tags.len() as u32, seed, &mut places);

@@ -1,8 +1,8 @@
 -- A group's line reads as its start, its seed and its word exactly where it is their line. Assumes nothing.
-use Rattle.std.specs.Prelude.{◌≡◌, ◌&&◌, List, [], ◌∷◌, ◌++◌, ℕ, ◌^◌, ◌≤◌, ◌<◌, leb, ltb, length, take, drop}
+use Rattle.std.specs.Prelude.{◌≡◌, ◌&&◌, List, [], ◌∷◌, ◌++◌, ℕ, ◌^◌, ◌≤◌, ◌<◌, leb, ltb, length, take, drop, Option, None, Some}
 use Rattle.std.proofs.Common.{sym, ◌∙◌, ap, append_assoc, arith, lit<, length-append, take-append-drop, take_at, drop_at, take-add, le-leb}
 use Rattle.std.proofs.Common.{leb-true, lt-ltb, ltb-true}
-use Rattle.std.proofs.Math.Option.{Option, none, some, some-injective}
+use Rattle.std.proofs.lemmas.Option.{same_Some}
 use Rattle.lists.proofs.BoolLaws.{both-of-and}
 use Rattle.lists.proofs.FirstLaws.{none-of-never}
 use Rattle.refusal.specs.Limits.{tag_end, seed_max}
@@ -39,7 +39,7 @@ triple-parts a b rest n m =
 
 -- A line reads as three numbers where it is their line, two of five digits at most and one of ten.
 triple-line : (start seed word : ℕ) → start < 10 ^ 5 → seed < 10 ^ 5 → word < 10 ^ 10
-    → triple_of (word_line start seed word) ≡ some (start, seed, word)
+    → triple_of (word_line start seed word) ≡ Some (start, seed, word)
 unfolding and_third both_fields
 triple-line start seed word h j k =
     rw (
@@ -51,22 +51,22 @@ triple-line start seed word h j k =
     )
 
 pub word-line : (start seed word : ℕ) → start < 10 ^ 5 → seed ≤ seed_max → word < tag_end
-    → group_word_line (word_line start seed word) ≡ some (start, seed, word)
+    → group_word_line (word_line start seed word) ≡ Some (start, seed, word)
 unfolding group_word_line within
 word-line start seed word h j k =
     rw (triple-line start seed word h (omega arith) (omega arith), le-leb seed seed_max j, lt-ltb word tag_end k)
 
 -- All three numbers are there, or none is.
-third-only : (x : Option (ℕ × ℕ)) (y : Option ℕ) (a b c : ℕ) → and_third x y ≡ some (a, b, c) → (x ≡ some (a, b)) × (y ≡ some c)
+third-only : (x : Option (ℕ × ℕ)) (y : Option ℕ) (a b c : ℕ) → and_third x y ≡ Some (a, b, c) → (x ≡ Some (a, b)) × (y ≡ Some c)
 unfolding and_third
-third-only none y a b c e = (cc, cc)
-third-only (some pair) none a b c e = (cc, cc)
-third-only (some pair) (some d) a b c e =
-    let i = some-injective (pair.0, pair.1, d) (a, b, c) e in
-    (ap (λ (x : ℕ × ℕ × ℕ). some (x.0, x.1)) i, ap (λ (x : ℕ × ℕ × ℕ). some x.2) i)
+third-only None y a b c e = (cc, cc)
+third-only (Some pair) None a b c e = (cc, cc)
+third-only (Some pair) (Some d) a b c e =
+    let i = same_Some (pair.0, pair.1, d) (a, b, c) e in
+    (ap (λ (x : ℕ × ℕ × ℕ). Some (x.0, x.1)) i, ap (λ (x : ℕ × ℕ × ℕ). Some x.2) i)
 
 -- Nothing else reads as three numbers.
-triple-only : (start seed word : ℕ) (line : List ℕ) → triple_of line ≡ some (start, seed, word)
+triple-only : (start seed word : ℕ) (line : List ℕ) → triple_of line ≡ Some (start, seed, word)
     → (line ≡ word_line start seed word) × (start < 10 ^ 5)
 unfolding triple_of
 triple-only start seed word line e =
@@ -77,7 +77,7 @@ triple-only start seed word line e =
     let t = tag-only word (drop 10 line) third in
     (sym (take-append-drop 10 line) ∙ rw (take-add 5 5 line, p.0, q.0, t.0) (sym (word_line-parts start seed word)), p.1)
 
-pub word-only : (start seed word : ℕ) (line : List ℕ) → group_word_line line ≡ some (start, seed, word)
+pub word-only : (start seed word : ℕ) (line : List ℕ) → group_word_line line ≡ Some (start, seed, word)
     → (line ≡ word_line start seed word) × (start < 10 ^ 5) × (seed ≤ seed_max) × (word < tag_end)
 unfolding group_word_line
 word-only start seed word line e =
@@ -87,7 +87,7 @@ word-only start seed word line e =
     (p.0, p.1, leb-true seed seed_max r.0, ltb-true word tag_end r.1)
 
 -- So a line of another length is malformed.
-pub word-other-length : (line : List ℕ) → (length line ≡ word_line_length → ⊥) → group_word_line line ≡ none
+pub word-other-length : (line : List ℕ) → (length line ≡ word_line_length → ⊥) → group_word_line line ≡ None
 word-other-length line other = none-of-never (group_word_line line) (λ numbers e.
     let line-is = (word-only numbers.0 numbers.1 numbers.2 line e).0 in
     other (ap length line-is ∙ word_line-length numbers.0 numbers.1 numbers.2))

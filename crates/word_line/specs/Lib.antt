@@ -1,2 +1,1 @@
 pub mod WordLine
-pub mod Answer

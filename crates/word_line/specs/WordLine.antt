@@ -1,6 +1,5 @@
 -- The group lines of an index without tags: document 02, §5. Assumes nothing.
-use Rattle.std.specs.Prelude.{ℕ, ◌&&◌, List, [], ◌∷◌, ◌++◌, leb, ltb, take, drop}
-use Rattle.std.proofs.Math.Option.{Option, none, some}
+use Rattle.std.specs.Prelude.{ℕ, ◌&&◌, List, [], ◌∷◌, ◌++◌, leb, ltb, take, drop, Option, None, Some}
 use Rattle.refusal.specs.Limits.{tag_end, seed_max}
 use Rattle.text.specs.Figure.{figure}
 use Rattle.text.specs.Field.{field}
@@ -15,9 +14,9 @@ word_line start seed word = figure 5 start ++ figure 5 seed ++ figure 10 word ++
 
 -- Two numbers and a third.
 unfoldable pub and_third : Option (ℕ × ℕ) → Option ℕ → Option (ℕ × ℕ × ℕ)
-and_third none third = none
-and_third (some pair) none = none
-and_third (some pair) (some c) = some (pair.0, pair.1, c)
+and_third None third = None
+and_third (Some pair) None = None
+and_third (Some pair) (Some c) = Some (pair.0, pair.1, c)
 
 -- What a line reads as, before any range is asked for: two fields of five columns, and behind them what a tag's line is, ten columns and
 -- a line feed.

@@ -1,15 +1,13 @@
 // What the promises of `write_word_line` and `read_word_line` suffice for: what is written is read, from the promises alone.
-ghost use Rattle.std.specs.Prelude.{◌≡◌, ◌≤◌, ◌<◌};
-ghost use Rattle.std.proofs.Math.Option.{none, some};
+ghost use Rattle.std.specs.Prelude.{◌≡◌, ◌≤◌, ◌<◌, None, Some};
 ghost use Rattle.refusal.specs.Limits.{seed_max};
-ghost use Rattle.word_line.specs.Answer.{group_word_meaning};
 
-use crate::{GroupWord, read_word_line, write_word_line};
+use crate::{read_word_line, write_word_line};
 
 // A line is read back as its three numbers, also after other lines were written before it and behind it.
-pub fn read_between(start: u32, seed: u32, word: u32) -> GroupWord
+pub fn read_between(start: u32, seed: u32, word: u32) -> Option<(u32, u32, u32)>
     requires { (start < 100000) × (seed ≤ seed_max) }
-    ensures answer { group_word_meaning result ≡ some (start, seed, word) }
+    ensures answer { result ≡ Some (start, seed, word) }
 {
     let mut text = [b'.'; 63];
     write_word_line(&mut text, 21, start, seed, word);
@@ -19,8 +17,8 @@ pub fn read_between(start: u32, seed: u32, word: u32) -> GroupWord
 }
 
 // A line of which the text has twenty bytes is malformed.
-pub fn read_cut_off() -> GroupWord
-    ensures answer { group_word_meaning result ≡ none }
+pub fn read_cut_off() -> Option<(u32, u32, u32)>
+    ensures answer { result ≡ None }
 {
     let text = [b'1'; 20];
     read_word_line(&text, 0)

@@ -1,8 +1,8 @@
 -- The starred theorem: every row of the table holds. Assumes nothing.
-use Rattle.std.specs.Prelude.{◌≡◌, refl, false, ℕ, length}
+use Rattle.std.specs.Prelude.{◌≡◌, refl, false, ℕ, length, Some}
 use Rattle.std.proofs.Common.{◌∙◌, subst, arith, le-ltb}
 use mathlib.Core.List.{List, [], flatten}
-use Rattle.std.proofs.Math.Option.{some, or_else}
+use Rattle.std.specs.Option.{option_or}
 use Rattle.refusal.specs.Limits.{limit_max, groups_max, outside}
 use Rattle.refusal.proofs.LimitsLaws.{outside-not}
 use Rattle.lists.specs.First.{first, met_at, is_some}
@@ -44,7 +44,7 @@ holds-only limit claims h l from upto = let e : limit ≡ l = omega arith in sub
 
 -- `unfolding computed` opens every definition that a row of small numbers computes through; least_seed stays shut where L is not given.
 computed : ℕ
-unfolding AllHold Holds met_at is_some met in_order or_else product high_part hashed group_of multiplier place_of
+unfolding AllHold Holds met_at is_some met in_order product high_part hashed group_of multiplier place_of
     one_tag_checks place_of_one_tag occurs distinct place_by chosen beginning least_from least feasible
     ones fewer_ones taken_from sequence_taken choice_number word_of
     both_places candidates taken not_above starts_unwired placing_checks placement_of placing_of image_length
@@ -90,7 +90,7 @@ row7 : RowHolds value7
 unfolding computed RowHolds first
 row7 limit from upto =
     let legal : outside 1 limit_max limit ≡ false = outside-not 1 limit_max limit from upto in
-    let seeded : least_seed [] limit ≡ some 0 = least_seed-empty limit from in (
+    let seeded : least_seed [] limit ≡ Some 0 = least_seed-empty limit from in (
       (λ room fits. building-in-order [] 1 limit room ∙ rw (one-group, legal, seeded, le-ltb room 22 fits)),
       (
         (λ before fits.

@@ -1,6 +1,5 @@
 -- "place 1 is never reached": why no seed serves the tags of worked value 6, which the early drop of a seed rests on. Assumes nothing.
-use Rattle.std.specs.Prelude.{◌≡◌, refl, Bool, true, false, List, ◌⊎◌, ℕ, zero, suc, ◌+◌, ◌*◌, ◌/◌, ◌%◌, ◌<◌, eqb, get_or}
-use Rattle.std.proofs.Math.Option.{none}
+use Rattle.std.specs.Prelude.{◌≡◌, refl, Bool, true, false, List, ◌⊎◌, ℕ, zero, suc, ◌+◌, ◌*◌, ◌/◌, ◌%◌, ◌<◌, eqb, get_or, None}
 use Rattle.std.proofs.Common.{inl, inr, eqb-true}
 use native.Mathlib.Omega.{arith}
 use Rattle.std.proofs.lemmas.Bool.{eqb-false}
@@ -45,7 +44,7 @@ place-never-one s i c lt e =
     let a = multiplier s c in never-one a (a / 4) i (odd-cases a (multiplier-odd s c)) lt e
 
 -- So every seed leaves place 1 untouched and can be dropped early: no seed serves the group, whatever the limit.
-pub unreachable-none : (limit : ℕ) → least_seed unreachable limit ≡ none
+pub unreachable-none : (limit : ℕ) → least_seed unreachable limit ≡ None
 unreachable-none limit = least_seed-out unreachable limit (λ s below. none-fills s)
   where
     none-fills : (s : ℕ) (cs : List Bool) → Fills (group_under unreachable s) cs → ⊥

@@ -2,7 +2,7 @@
 -- Assumes nothing.
 use Rattle.std.specs.Prelude.{◌≡◌, refl, ℕ, take, set}
 use mathlib.Core.List.{List, [], ◌∷◌, flatten}
-use Rattle.std.proofs.Math.Option.{or_else}
+use Rattle.std.specs.Option.{option_or}
 use Rattle.refusal.specs.Limits.{outside}
 use Rattle.refusal.specs.Outcome.{answered, refused, answered_by, followed_by, on_answer}
 use Rattle.lists.specs.First.{first, met_at, is_some}
@@ -41,7 +41,7 @@ use Rattle.tag_index.specs.Calls.{build_answer, check_answer, lookup_answer}
 
 -- `unfolding computed` opens every definition that these compute through.
 computed : ℕ
-unfolding flatten or_else outside answered_by followed_by first met_at is_some met in_order product high_part hashed
+unfolding flatten outside answered_by followed_by first met_at is_some met in_order product high_part hashed
     group_of multiplier place_of leading figure value_from same field line_at pair_line tag_line ended both_fields pair_of tag_of
     within image_header group_line slot_line list_header list_line occurs distinct place_by beginning least_from least feasible
     choice_number ones fewer_ones taken_from sequence_taken

@@ -23,10 +23,8 @@ pub fn write_lines(
         ++ drop (image_length groups count) buffer.old }
 {
     let lines = 1 + groups + count;
-    let mut k = 0;
-    while k < lines {
+    for k in 0..lines {
         write_line(ends, seeds, slots, groups, count, k, buffer);
-        k += 1;
     }
 }
 

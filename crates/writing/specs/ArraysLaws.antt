@@ -1,9 +1,8 @@
 -- What the arrays hold once the tags are ordered and the slots arranged. Assumes nothing.
-use Rattle.std.specs.Prelude.{◌≡◌, length, take, drop}
+use Rattle.std.specs.Prelude.{◌≡◌, length, take, drop, None}
 use Rattle.std.proofs.Math.Path.{refl, ap}
 use Rattle.std.proofs.Common.{sym, ◌∙◌, length-drop, take_all, get_or-drop}
 use mathlib.Core.List.{List, ◌++◌, flatten}
-use Rattle.std.proofs.Math.Option.{none}
 use Prim.Native.Nat.{ℕ, suc, ◌+◌, ◌-◌, ◌≤◌}
 use native.Mathlib.Omega.{arith}
 use Rattle.std.proofs.Math.ListN.{get_or, length-append, get_or-append}
@@ -49,7 +48,7 @@ module _ {tags : List ℕ} {groups : ℕ} {plan : List ℕ} {room : ℕ} (a : Ad
   admitted-count = ltb-false tags_max (length tags) (false-of-met _ (passed (checks 10) a.passes 5))
 
   -- With 10 all checks before 18 pass.
-  pub passed-10 : first (too_large groups tags) groups ≡ none → Pass (checks 18)
+  pub passed-10 : first (too_large groups tags) groups ≡ None → Pass (checks 18)
   unfolding writing_checks
   passed-10 small = passed_on (writing_checks tags plan room) 10 18 refl a.passes (rw a.groups-are at small)
 
@@ -91,7 +90,7 @@ module _ {tags : List ℕ} {groups : ℕ} {plan ordered ends : List ℕ} {room :
       (λ g lt. rw (o.sorted.part g lt, seed-is g, o.groups-are)) ∙ rw o.groups-are
 
   -- Where every part is filled, the slots are arranged and the lines can be written;
-  module _ (every : first (unfilled tags plan) (planned_groups plan) ≡ none) (before : List ℕ) where
+  module _ (every : first (unfilled tags plan) (planned_groups plan) ≡ None) (before : List ℕ) where
     passed-18 : Pass (writing_checks tags plan room)
     unfolding writing_checks
     passed-18 = passed_on (writing_checks tags plan room) 18 0 refl o.passes every

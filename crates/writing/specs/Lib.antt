@@ -1,4 +1,3 @@
-pub mod Answer
 pub mod Arrays
 pub mod ArraysLaws
 pub mod PromiseLaws

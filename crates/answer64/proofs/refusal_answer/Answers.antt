@@ -5,4 +5,4 @@ use Rattle.answer64.proofs.refusal_answer.Goals as goal
 
 pub returns : goal.returns
 unfolding answer64
-returns c = record { answer = omega (arith, c.reason_number.ensures.answer) }
+returns c = record { answer = omega (arith, c.from.ensures) }

@@ -1,10 +1,9 @@
 -- `arrange::arrange` meets its contract: after g turns the cells begin with the slots of the first g groups, each of which some sequence
 -- fills, and the others are as they were. Assumes nothing.
 use Prim.Native.Nat.{◌≤◌}
-use mathlib.Core.Path.{sym, ◌∙◌, ap}
+use mathlib.Core.Path.{sym, ◌∙◌}
 use native.Mathlib.Omega.{arith}
 use lib.ListN.{length, get_or}
-use Rattle.sequence.specs.Answer.{choices_meaning}
 use Rattle.arrange.proofs.Slots.{filled-start, filled-length, part-within, part-legal, part-unfilled, part-arrangeable}
 use Rattle.arrange.proofs.Slots.{filled-turn, filled-done}
 use Rattle.arrange.proofs.arrange.Goals as goal
@@ -35,7 +34,7 @@ shape_of-slots-in_default c =
 
 pub returns-in_default : goal.returns-in_default
 returns-in_default c =
-    let nothing = sym c.word_under.ensures.answer ∙ ap choices_meaning c.in_default.is in
+    let nothing = sym c.word_under.ensures.answer ∙ c.in_default.is in
     let inv = c.loop-g.invariant in
     record { answer = sym (part-unfilled c.requires inv c.loop-g-test.true nothing); cells = inv.cells_are }
 
@@ -53,12 +52,12 @@ slice_bounds-arrange_group-count-in-loop-g c = (within (goal.at.slice_bounds-arr
 
 pub arrange_group-requires : goal.arrange_group-requires
 arrange_group-requires c =
-    let found = sym c.word_under.ensures.answer ∙ ap choices_meaning c.in-Word.is in
+    let found = sym c.word_under.ensures.answer ∙ c.in-Some.is in
     part-arrangeable c.requires c.loop-g.invariant c.loop-g-test.true found
 
 pub loop-g-preserved : goal.loop-g-preserved
 loop-g-preserved c =
-    let found = sym c.word_under.ensures.answer ∙ ap choices_meaning c.in-Word.is in
+    let found = sym c.word_under.ensures.answer ∙ c.in-Some.is in
     filled-turn c.requires c.loop-g.invariant c.loop-g-test.true found c.arrange_group.ensures.cells
 
 pub shape_of-slots : goal.shape_of-slots

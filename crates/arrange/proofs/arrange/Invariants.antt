@@ -1,10 +1,6 @@
 -- What the loops of `arrange::arrange` keep true. Assumes nothing.
-use Prim.Native.Nat.{◌-◌}
 use Rattle.arrange.proofs.Slots.{Filled}
 use Rattle.arrange.proofs.arrange.Given as goal
 
 abbrev pub invariant-loop-g : goal.invariant-loop-g
 invariant-loop-g l = Filled l.ordered l.ends l.seeds l.groups l.initial.slots l.slots l.start l.g
-
-abbrev pub decreases-loop-g : goal.decreases-loop-g
-decreases-loop-g l = l.groups - l.g

@@ -16,24 +16,24 @@ use Rattle.calls_strict.proofs.strict_check.Goals as goal
 pub refusal_answer-requires : goal.refusal_answer-requires
 refusal_answer-requires c =
     let a = c.args in
-    let refused = sym c.strict_check.ensures.answer ∙ ap check_outcome c.in-Refused.is in
+    let refused = sym c.strict_check.ensures.answer ∙ ap check_outcome c.in-Err.is in
     omega (arith, place-below image_lines (strict_place a.image.now) refused)
 
-pub returns-in-Accepted : goal.returns-in-Accepted
+pub returns-in-Ok : goal.returns-in-Ok
 unfolding strict_check_answer answer64
-returns-in-Accepted c =
+returns-in-Ok c =
     let image = c.args.image.now in
     let (answer, condition) = promised64 (strict_check_of image) (strict-fits image) (StrictCondition image)
-    c.strict_check.ensures.answer (sym (ap (λ o. answer64 (check_outcome o)) c.in-Accepted.is))
+    c.strict_check.ensures.answer (sym (ap (λ o. answer64 (check_outcome o)) c.in-Ok.is))
     c.strict_check.ensures.condition in
     record { answer = answer; condition = condition }
 
-pub returns-in-Refused : goal.returns-in-Refused
+pub returns-in-Err : goal.returns-in-Err
 unfolding strict_check_answer
-returns-in-Refused c =
+returns-in-Err c =
     let image = c.args.image.now in
     let (answer, condition) = promised64 (strict_check_of image) (strict-fits image) (StrictCondition image)
     c.strict_check.ensures.answer
-    (c.refusal_answer.ensures.answer ∙ sym (ap (λ o. answer64 (check_outcome o)) c.in-Refused.is))
+    (c.refusal_answer.ensures.answer ∙ sym (ap (λ o. answer64 (check_outcome o)) c.in-Err.is))
     c.strict_check.ensures.condition in
     record { answer = answer; condition = condition }

@@ -5,9 +5,10 @@ use mathlib.Core.List.{List}
 use Prim.Native.Nat.{ℕ}
 use native.Mathlib.Omega.{arith}
 use lib.ListN.{length}
+use Rattle.std.specs.Prelude.{Result}
 use Rattle.refusal.specs.Outcome.{Outcome}
-use Rattle.building.specs.Answer.{build_outcome}
-use Rattle.building.specs.declared.BuildAnswer.{BuildAnswer}
+use Rattle.refusal.specs.Answer.{outcome}
+use Rattle.refusal.specs.declared.Refusal.{Refusal}
 use Rattle.tagless.specs.FromText.{tagless_buffer_from_text}
 use Rattle.tagless_from_text.specs.Condition.{TextTaglessCondition}
 use Rattle.tagless_from_text.specs.PromiseLaws.{TextPromised}
@@ -23,7 +24,7 @@ use Rattle.calls_tagless.proofs.build.Goals as goal
 pub refusal_answer-requires : goal.refusal_answer-requires
 refusal_answer-requires c =
     let a = c.args in
-    let refused = sym c.build_from_text.ensures.answer ∙ ap build_outcome c.in-Refused.is in
+    let refused = sym c.build_from_text.ensures.answer ∙ ap outcome c.in-Err.is in
     omega (arith, place-below text_lines (tagless-text-place a.text.now _) refused)
 
 -- The answer, the bytes, and the condition of the answer.
@@ -36,19 +37,19 @@ promised text before after r outcome (told, (bytes, condition)) answer =
     promised64 _ (tagless-build-fits text (length before)) (λ o. TextTaglessCondition text (length before) o after) told answer condition in
     (is, (bytes, of-answer))
 
-pub returns-in-Built : goal.returns-in-Built
+pub returns-in-Ok : goal.returns-in-Ok
 unfolding answer64
-returns-in-Built c =
+returns-in-Ok c =
     let a = c.args in
     let built = c.build_from_text.ensures in
-    let is = ap (λ (x : BuildAnswer). answer64 (build_outcome x)) (sym c.in-Built.is) in
+    let is = ap (λ (x : Result ℕ Refusal). answer64 (outcome x)) (sym c.in-Ok.is) in
     let p = promised a.text.now a.image.now _ _ _ (built.answer, (built.bytes, built.condition)) is in
     record { answer = p.0; bytes = p.1.0; condition = p.1.1 }
 
-pub returns-in-Refused : goal.returns-in-Refused
-returns-in-Refused c =
+pub returns-in-Err : goal.returns-in-Err
+returns-in-Err c =
     let a = c.args in
     let built = c.build_from_text.ensures in
-    let is = c.refusal_answer.ensures.answer ∙ ap (λ (x : BuildAnswer). answer64 (build_outcome x)) (sym c.in-Refused.is) in
+    let is = c.refusal_answer.ensures.answer ∙ ap (λ (x : Result ℕ Refusal). answer64 (outcome x)) (sym c.in-Err.is) in
     let p = promised a.text.now a.image.now _ _ _ (built.answer, (built.bytes, built.condition)) is in
     record { answer = p.0; bytes = p.1.0; condition = p.1.1 }

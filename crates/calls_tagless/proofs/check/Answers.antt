@@ -13,16 +13,16 @@ use Rattle.calls_tagless.proofs.check.Goals as goal
 pub refusal_answer-requires : goal.refusal_answer-requires
 refusal_answer-requires c =
     let a = c.args in
-    let refused = sym c.tagless_check.ensures.answer ∙ ap check_outcome c.in-Refused.is in
+    let refused = sym c.tagless_check.ensures.answer ∙ ap check_outcome c.in-Err.is in
     omega (arith, place-below image_lines (tagless-check-place a.image.now) refused)
 
-pub returns-in-Accepted : goal.returns-in-Accepted
+pub returns-in-Ok : goal.returns-in-Ok
 unfolding tagless_check_answer answer64
-returns-in-Accepted c = record { answer = ap answer64 (sym (ap check_outcome c.in-Accepted.is) ∙ c.tagless_check.ensures.answer) }
+returns-in-Ok c = record { answer = ap answer64 (sym (ap check_outcome c.in-Ok.is) ∙ c.tagless_check.ensures.answer) }
 
-pub returns-in-Refused : goal.returns-in-Refused
+pub returns-in-Err : goal.returns-in-Err
 unfolding tagless_check_answer
-returns-in-Refused c = record {
+returns-in-Err c = record {
   answer = c.refusal_answer.ensures.answer
-      ∙ ap answer64 (sym (ap check_outcome c.in-Refused.is) ∙ c.tagless_check.ensures.answer);
+      ∙ ap answer64 (sym (ap check_outcome c.in-Err.is) ∙ c.tagless_check.ensures.answer);
 }

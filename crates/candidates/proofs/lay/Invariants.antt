@@ -1,5 +1,5 @@
 -- What the loops of `candidates::lay` keep true. Assumes nothing.
-use Prim.Native.Nat.{◌-◌, ◌≤◌}
+use Prim.Native.Nat.{◌≤◌}
 use mathlib.Core.Path.{◌≡◌}
 use mathlib.Core.List.{map}
 use lib.ListN.{length}
@@ -10,6 +10,3 @@ use Rattle.candidates.proofs.lay.Given as goal
 abbrev pub invariant-loop-i : goal.invariant-loop-i
 invariant-loop-i l =
     (l.i ≤ length l.tags) × (l.places ≡ paste l.initial.places l.from (map (hashed l.multiplier l.n) l.tags) l.i)
-
-abbrev pub decreases-loop-i : goal.decreases-loop-i
-decreases-loop-i l = length l.tags - l.i

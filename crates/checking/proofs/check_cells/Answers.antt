@@ -1,13 +1,11 @@
 -- `checking::check_cells` meets its contract: the lowest slot that holds 0 decides; where none does, the lowest faulty group; and
 -- where none is, the fault of the slots. Assumes nothing.
 use mathlib.Core.Path.{◌≡◌, sym, ◌∙◌, ap}
-use mathlib.Core.Option.{none}
+use Rattle.std.specs.Prelude.{Option, None, Some}
 use Prim.Native.Nat.{ℕ}
 use lib.ListN.{get_or}
 use Rattle.refusal.specs.Outcome.{answered}
-use Rattle.refusal.specs.Answer.{first_meaning}
-use Rattle.refusal.specs.declared.First.{First}
-use Rattle.refusal.specs.declared.First.TheVariants.{Nowhere}
+use Rattle.refusal.specs.Reason.{refusal_of}
 use Rattle.slots.specs.declared.SlotFault.{SlotFault}
 use Rattle.slots.specs.Fault.{fault_before}
 use mathlib.Core.List.{List}
@@ -21,38 +19,37 @@ use Rattle.checking.proofs.check_cells.Goals as goal
 
 -- Where no slot holds 0, and no group is faulty, the slots are walked.
 module _ (starts seeds tags : List ℕ) (groups : ℕ) where
-  wired : {found : First} → first_meaning found ≡ first (unwired_at tags) (get_or starts groups 0) → found ≡ Nowhere
-      → first (unwired_at tags) (get_or starts groups 0) ≡ none
-  wired answer is = sym answer ∙ ap first_meaning is
+  wired : {found : Option ℕ} → found ≡ first (unwired_at tags) (get_or starts groups 0) → found ≡ None
+      → first (unwired_at tags) (get_or starts groups 0) ≡ None
+  wired answer is = sym answer ∙ is
 
-  fair : {found : First} → first_meaning found ≡ first (faulty_at starts) groups → found ≡ Nowhere → first (faulty_at starts) groups ≡ none
-  fair answer is = sym answer ∙ ap first_meaning is
+  fair : {found : Option ℕ} → found ≡ first (faulty_at starts) groups → found ≡ None → first (faulty_at starts) groups ≡ None
+  fair answer is = sym answer ∙ is
 
-  outcome : {unwired faulty : First} {walked told : SlotFault}
-      → first_meaning unwired ≡ first (unwired_at tags) (get_or starts groups 0) → unwired ≡ Nowhere
-      → first_meaning faulty ≡ first (faulty_at starts) groups → faulty ≡ Nowhere
+  outcome : {unwired faulty : Option ℕ} {walked told : Option SlotFault}
+      → unwired ≡ first (unwired_at tags) (get_or starts groups 0) → unwired ≡ None
+      → faulty ≡ first (faulty_at starts) groups → faulty ≡ None
       → walked ≡ fault_before (cells_view starts seeds tags groups) (get_or starts groups 0) → walked ≡ told
       → in_order {A = ℕ} (number_checks (cells_view starts seeds tags groups)) (answered 0) ≡ fault_outcome told
   outcome first first-is second second_is third is =
       numbers-slots starts seeds tags groups (wired first first-is) (fair second second_is) ∙ ap fault_outcome (sym third ∙ is)
 
-pub returns-in-At : goal.returns-in-At
-returns-in-At c =
+pub returns-in-Some : goal.returns-in-Some
+returns-in-Some c =
     let a = c.args in
     record {
-      answer = c.refused.ensures.answer
-          ∙ sym (numbers-unwired a.starts.now a.seeds.now a.tags.now a.groups
-          (sym c.unwired_slot.ensures.answer ∙ ap first_meaning c.in-At.is));
+      answer = ap refusal_of c.at.ensures.answer
+          ∙ sym (numbers-unwired a.starts.now a.seeds.now a.tags.now a.groups (sym c.unwired_slot.ensures.answer ∙ c.in-Some.is));
     }
 
-pub returns-in-At-faulty_group : goal.returns-in-At-faulty_group
-returns-in-At-faulty_group c =
+pub returns-in-Some-faulty_group : goal.returns-in-Some-faulty_group
+returns-in-Some-faulty_group c =
     let a = c.args in
     record {
-      answer = c.refused-in-At-faulty_group.ensures.answer
+      answer = ap refusal_of c.at-in-Some-faulty_group.ensures.answer
           ∙ sym (numbers-faulty a.starts.now a.seeds.now a.tags.now a.groups
           (wired a.starts.now a.seeds.now a.tags.now a.groups c.unwired_slot.ensures.answer c.in_default.is)
-          (sym c.faulty_group.ensures.answer ∙ ap first_meaning c.in-At-faulty_group.is));
+          (sym c.faulty_group.ensures.answer ∙ c.in-Some-faulty_group.is));
     }
 
 pub slot_fault-requires : goal.slot_fault-requires
@@ -61,26 +58,26 @@ slot_fault-requires c =
     regular-of a.starts.now a.seeds.now a.groups c.requires
     (fair a.starts.now a.seeds.now a.tags.now a.groups c.faulty_group.ensures.answer c.in_default-faulty_group.is)
 
-pub returns-in-Misplaced : goal.returns-in-Misplaced
-returns-in-Misplaced c =
+pub returns-in-Some-Misplaced : goal.returns-in-Some-Misplaced
+returns-in-Some-Misplaced c =
     let a = c.args in
     let walked = outcome a.starts.now a.seeds.now a.tags.now a.groups
     c.unwired_slot.ensures.answer c.in_default.is c.faulty_group.ensures.answer c.in_default-faulty_group.is
-    c.slot_fault.ensures.answer c.in-Misplaced.is in
-    record { answer = c.refused-in-Misplaced.ensures.answer ∙ sym walked }
+    c.slot_fault.ensures.answer (c.in-Some-Misplaced.is ∙ ap Some c.in-Some-Misplaced.field-0-is) in
+    record { answer = ap refusal_of c.at-in-Some-Misplaced.ensures.answer ∙ sym walked }
 
-pub returns-in-Repeated : goal.returns-in-Repeated
-returns-in-Repeated c =
+pub returns-in-Some-Repeated : goal.returns-in-Some-Repeated
+returns-in-Some-Repeated c =
     let a = c.args in
     let walked = outcome a.starts.now a.seeds.now a.tags.now a.groups
     c.unwired_slot.ensures.answer c.in_default.is c.faulty_group.ensures.answer c.in_default-faulty_group.is
-    c.slot_fault.ensures.answer c.in-Repeated.is in
-    record { answer = c.refused-in-Repeated.ensures.answer ∙ sym walked }
+    c.slot_fault.ensures.answer (c.in-Some-Repeated.is ∙ ap Some c.in-Some-Repeated.field-0-is) in
+    record { answer = ap refusal_of c.at-in-Some-Repeated.ensures.answer ∙ sym walked }
 
-pub returns-in-Nowhere : goal.returns-in-Nowhere
-returns-in-Nowhere c =
+pub returns-in-None : goal.returns-in-None
+returns-in-None c =
     let a = c.args in
     let walked = outcome a.starts.now a.seeds.now a.tags.now a.groups
     c.unwired_slot.ensures.answer c.in_default.is c.faulty_group.ensures.answer c.in_default-faulty_group.is
-    c.slot_fault.ensures.answer c.in-Nowhere.is in
+    c.slot_fault.ensures.answer c.in-None.is in
     record { answer = sym walked }

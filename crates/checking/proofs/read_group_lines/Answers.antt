@@ -3,15 +3,13 @@
 use mathlib.Core.Path.{◌≡◌, refl, sym}
 use mathlib.Core.List.{List}
 use mathlib.Core.Bool.{not}
-use mathlib.Core.Option.{Option, none, some}
+use Rattle.std.specs.Prelude.{Option, None, Some}
 use Prim.Native.Nat.{ℕ, ◌+◌, ◌*◌, ◌<◌}
 use native.Mathlib.Omega.{arith}
 use Rattle.lists.specs.First.{is_some}
 use Rattle.lists.proofs.SearchLaws.{searched-start, searched-turn, searched-found, searched-done}
-use Rattle.text.specs.declared.Pair.{Pair}
 use Rattle.text.specs.Line.{line_length, line_at, group_line}
-use Rattle.text.proofs.LineLaws.{line_reads}
-use Rattle.text.specs.Answer.{pair_meaning}
+use Rattle.text.proofs.LineLaws.{line_said}
 use Rattle.image.specs.View.{view_of}
 use Rattle.image.specs.Checking.{malformed_in}
 use lib.ListN.{take, drop}
@@ -20,10 +18,10 @@ use Rattle.checking.specs.StepsLaws.{lines_start, group-line-tested, groups_none
 use Rattle.checking.proofs.read_group_lines.Goals as goal
 
 -- What the line of a group says.
-states : (image : List ℕ) (g : ℕ) {found told : Pair}
-    → pair_meaning found ≡ group_line (take line_length (drop (line_length * (1 + g)) image)) → found ≡ told
-    → group_line (line_at (1 + g) image) ≡ pair_meaning told
-states image g answer e = line_reads pair_meaning group_line image (1 + g) (1 + g) answer e refl
+states : (image : List ℕ) (g : ℕ) {found told : Option (ℕ × ℕ)}
+    → found ≡ group_line (take line_length (drop (line_length * (1 + g)) image)) → found ≡ told
+    → group_line (line_at (1 + g) image) ≡ told
+states image g answer e = line_said group_line image (1 + g) (1 + g) answer e refl
 
 module _ (image : List ℕ) {count groups g : ℕ} (opens : Opens image count groups) (lower : g < groups) where
   below : 1 + g < 1 + groups
@@ -52,7 +50,7 @@ returns-in_default c =
     let g = c.loop-g.g in
     let opens = c.requires.opens in
     let lower = c.loop-g-test.true in
-    let malformed = tested image opens lower none (states image g c.read_group_line.ensures.answer c.in_default.is) in
+    let malformed = tested image opens lower None (states image g c.read_group_line.ensures.answer c.in_default.is) in
     let test = malformed_in (view_of image) in
     let found = searched-found test 1 (1 + groups) (1 + g) c.loop-g.invariant.searched (below image opens lower) malformed in
     record { answer = sym found; cells = c.loop-g.invariant.stored }
@@ -66,10 +64,10 @@ loop-g-preserved c =
     let loop = c.loop-g in
     let opens = c.requires.opens in
     let lower = c.loop-g-test.true in
-    let numbers = states image g c.read_group_line.ensures.answer c.in-Numbers.is in
+    let numbers = states image g c.read_group_line.ensures.answer c.in-Some.is in
     let next : 1 + (g + 1) ≡ 1 + g + 1 = omega arith in
     let test = malformed_in (view_of image) in
-    let well-formed = tested image opens lower (some _) numbers in
+    let well-formed = tested image opens lower (Some _) numbers in
     record {
       searched = rw next (searched-turn test 1 (1 + groups) (1 + g) loop.invariant.searched (below image opens lower) well-formed);
       stored = groups-turn image opens g _ _ loop.starts loop.seeds lower numbers loop.invariant.stored;

@@ -1,6 +1,6 @@
 -- What the loops of `checking::read_group_lines` keep true. Assumes nothing.
 use mathlib.Core.List.{List}
-use Prim.Native.Nat.{ℕ, ◌+◌, ◌-◌}
+use Prim.Native.Nat.{ℕ, ◌+◌}
 use Rattle.lists.proofs.SearchLaws.{Searched}
 use Rattle.image.specs.View.{view_of}
 use Rattle.image.specs.Checking.{malformed_in}
@@ -14,6 +14,3 @@ pub record Read (image : List ℕ) (count groups : ℕ) (starts seeds : List ℕ
 
 abbrev pub invariant-loop-g : goal.invariant-loop-g
 invariant-loop-g l = Read l.image l.count l.groups l.starts l.seeds l.g
-
-abbrev pub decreases-loop-g : goal.decreases-loop-g
-decreases-loop-g l = l.groups - l.g

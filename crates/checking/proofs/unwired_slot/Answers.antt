@@ -1,35 +1,16 @@
--- `checking::unwired_slot` meets its contract: no slot before j holds 0, and the first that does ends the loop. Assumes nothing.
-use borrow.Author.Tests.{eq-eqb, ne_eqb}
-use mathlib.Core.Path.{refl, sym}
-use native.Mathlib.Omega.{arith}
-use lib.ListN.{get_or}
+-- `checking::unwired_slot` meets its contract: the first of the slots' cells that holds 0 is the lowest slot that does. Assumes nothing.
+use Rattle.std.proofs.Common.{◌==◌, take, refl, ◌∙◌, arith, rules, tests}
+use Rattle.std.proofs.lemmas.Iterator.{YieldsList-from_slice}
+use Rattle.std.proofs.lemmas.Iterator.Search.{position_from_yields_List}
+use Rattle.lists.proofs.PositionLaws.{position-first-taken}
 use Rattle.refusal.specs.Limits.{unwired}
-use Rattle.lists.specs.First.{first}
-use Rattle.lists.proofs.SearchLaws.{searched-start, searched-turn, searched-found, searched-done}
 use Rattle.checking.specs.Steps.{unwired_at}
 use Rattle.checking.proofs.unwired_slot.Goals as goal
 
-pub loop-j-init : goal.loop-j-init
-unfolding first
-loop-j-init c = let a = c.args in searched-start (unwired_at a.tags.now) 0 a.count (omega arith) refl
-
-pub returns-then-tags-j-eq-UNWIRED : goal.returns-then-tags-j-eq-UNWIRED
-returns-then-tags-j-eq-UNWIRED c =
-    let a = c.args in
-    let j = c.loop-j.j in
-    record {
-      answer = sym (searched-found (unwired_at a.tags.now) 0 a.count j c.loop-j.invariant c.loop-j-test.true
-          (eq-eqb (get_or a.tags.now j 0) unwired c.if-tags-j-eq-UNWIRED.true));
-    }
-
-pub loop-j-preserved : goal.loop-j-preserved
-loop-j-preserved c =
-    let a = c.args in
-    let j = c.loop-j.j in
-    searched-turn (unwired_at a.tags.now) 0 a.count j c.loop-j.invariant c.loop-j-test.true
-    (ne_eqb (get_or a.tags.now j 0) unwired c.if-tags-j-eq-UNWIRED.false)
-
 pub returns : goal.returns
 returns c =
-    let a = c.args in
-    record { answer = sym (searched-done (unwired_at a.tags.now) 0 a.count c.loop-j.j c.loop-j.invariant c.loop-j-test.false) }
+    let tags = c.args.tags.now in
+    let slots = YieldsList-from_slice (take c.args.count tags) c.iter.ensures.rest in
+    let found = position_from_yields_List (λ t. t == unwired) _ _ c.position.result c.position.ensures.ran slots
+    (λ x b q k. search (rules, tests)) in
+    record { answer = found ∙ position-first-taken _ (unwired_at tags) tags c.args.count 0 (omega arith) (λ k lt. refl) }

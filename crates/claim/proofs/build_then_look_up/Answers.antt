@@ -3,7 +3,7 @@
 use mathlib.Core.Path.{sym, ◌∙◌, ap}
 use native.Mathlib.Omega.{arith}
 use lib.Seq.{length-take-le}
-use Rattle.building.specs.Answer.{build_outcome}
+use Rattle.refusal.specs.Answer.{outcome}
 use Rattle.condition3_theorem.specs.Condition3Theorem.{tags-of-words}
 use Rattle.claim.proofs.ClaimLaws.{claim-refused, written-within, claim-found}
 use Rattle.claim.proofs.build_then_look_up.Goals as goal
@@ -11,21 +11,21 @@ use Rattle.claim.proofs.build_then_look_up.Goals as goal
 pub slice_bounds-lookup-end : goal.slice_bounds-lookup-end
 slice_bounds-lookup-end c =
     let a = c.args in
-    let outcome = sym c.build.ensures.answer ∙ ap build_outcome c.in-Built.is in
+    let outcome = sym c.build.ensures.answer ∙ ap outcome c.in-Ok.is in
     written-within a.tags.now a.groups a.limit a.buffer.now a.tag c.build.ensures.bytes outcome
 
-pub slice_bounds-lookup-end-in-Built : goal.slice_bounds-lookup-end-in-Built
-slice_bounds-lookup-end-in-Built c =
+pub slice_bounds-lookup-end-in-Ok : goal.slice_bounds-lookup-end-in-Ok
+slice_bounds-lookup-end-in-Ok c =
     let a = c.args in
-    let outcome = sym c.build.ensures.answer ∙ ap build_outcome c.in-Built.is in
+    let outcome = sym c.build.ensures.answer ∙ ap outcome c.in-Ok.is in
     sym (length-take-le _ _
     (written-within a.tags.now a.groups a.limit a.buffer.now a.tag c.build.ensures.bytes outcome))
 
-pub returns-in-Built : goal.returns-in-Built
-returns-in-Built c =
+pub returns-in-Ok : goal.returns-in-Ok
+returns-in-Ok c =
     let a = c.args in
     let e = c.build.ensures in
-    let outcome = sym e.answer ∙ ap build_outcome c.in-Built.is in
+    let outcome = sym e.answer ∙ ap outcome c.in-Ok.is in
     let words = tags-of-words a.tags.now (λ i. omega (arith, c.type_inv.tags i)) in
     record {
       answer = c.lookup.ensures.answer ∙ claim-found a.tags.now a.groups a.limit a.buffer.now a.tag words e.bytes outcome;
@@ -34,11 +34,11 @@ returns-in-Built c =
       condition3 = rw e.answer at e.condition3;
     }
 
-pub returns-in-Refused : goal.returns-in-Refused
-returns-in-Refused c =
+pub returns-in-Err : goal.returns-in-Err
+returns-in-Err c =
     let a = c.args in
     let e = c.build.ensures in
-    let outcome = sym e.answer ∙ ap build_outcome c.in-Refused.is in
+    let outcome = sym e.answer ∙ ap outcome c.in-Err.is in
     record {
       answer = sym (claim-refused a.tags.now a.groups a.limit a.buffer.now a.tag outcome);
       plan = e.plan;

@@ -5,6 +5,3 @@ use Rattle.digits.proofs.write_digits_from.Given as goal
 
 abbrev pub invariant-loop-i : goal.invariant-loop-i
 invariant-loop-i l = Writes l.first (length l.initial.s) l.n l.i l.rest l.s
-
-abbrev pub decreases-loop-i : goal.decreases-loop-i
-decreases-loop-i l = l.i

@@ -11,6 +11,3 @@ pub record SettledFrom (table : List ℕ) (word bit : ℕ) : Type 0 where
 
 abbrev pub invariant-loop-bit : goal.invariant-loop-bit
 invariant-loop-bit l = SettledFrom l.table l.word l.bit
-
-abbrev pub decreases-loop-bit : goal.decreases-loop-bit
-decreases-loop-bit l = l.bit

@@ -1,5 +1,5 @@
 -- What the loops of `equations::equations_of` keep true. Assumes nothing.
-use Prim.Native.Nat.{ℕ, ◌-◌, ◌≤◌, ◌<◌}
+use Prim.Native.Nat.{ℕ, ◌≤◌, ◌<◌}
 use mathlib.Core.Path.{◌≡◌}
 use mathlib.Core.List.{List}
 use lib.ListN.{length, get_or, take}
@@ -20,6 +20,3 @@ pub record CellsAfter (n : ℕ) (places rows cells : List ℕ) (i : ℕ) : Type 
 
 abbrev pub invariant-loop-i : goal.invariant-loop-i
 invariant-loop-i l = CellsAfter l.n l.places l.rows l.cells l.i
-
-abbrev pub decreases-loop-i : goal.decreases-loop-i
-decreases-loop-i l = l.n - l.i

@@ -1,5 +1,5 @@
 -- What the loops of `equations::least_word` keep true. Assumes nothing.
-use Prim.Native.Nat.{ℕ, ◌-◌, ◌≤◌}
+use Prim.Native.Nat.{ℕ, ◌≤◌}
 use mathlib.Core.Path.{◌≡◌}
 use mathlib.Core.List.{List}
 use lib.ListN.{get_or, take}
@@ -13,8 +13,5 @@ pub record TableAfter (n : ℕ) (places rows table : List ℕ) (place : ℕ) : T
   pub system : System 32 (keys_of n places) (take n rows) place table
   pub free : get_or table 32 0 ≡ 0
 
-abbrev pub invariant-loop-place : goal.invariant-loop-place
-invariant-loop-place l = TableAfter l.n l.places l.rows l.table l.place
-
-abbrev pub decreases-loop-place : goal.decreases-loop-place
-decreases-loop-place l = l.n - l.place
+abbrev pub invariant-loop-equation : goal.invariant-loop-equation
+invariant-loop-equation l = TableAfter l.n l.places l.rows l.table l.equation-index

@@ -1,42 +1,27 @@
 -- `from_text::build_from_text` meets its contract: what reading refuses is refused, and a list that is read is built from the cells.
 -- Assumes nothing.
-use mathlib.Core.Path.{◌≡◌, refl, sym, ◌∙◌, ap}
-use native.Mathlib.Omega.{arith}
+use Rattle.std.specs.Prelude.{refl}
+use Rattle.std.proofs.Common.{sym, arith}
 use Rattle.refusal.proofs.OutcomeLaws.{refused-of-by}
-use Rattle.list.specs.Answer.{head_of, list_outcome}
-use Rattle.list.specs.Reading.{cells_after}
-use Rattle.list.specs.declared.ListAnswer.{ListAnswer}
-use Rattle.list.specs.declared.ListAnswer.TheVariants.{Listed}
-use Rattle.numbering.specs.FromText.{list_from_text}
-use Rattle.refusal.specs.Outcome.{answered_by}
-use Prim.Native.Nat.{ℕ}
-use mathlib.Core.List.{List}
-use Rattle.from_text.specs.PromiseLaws.{ReadInto, read-into, promised-unread, promised-read}
+use Rattle.refusal.proofs.AnswerLaws.{passed_up}
+use Rattle.list.specs.Answer.{head_of}
+use Rattle.from_text.specs.PromiseLaws.{read-into, promised-unread, promised-read}
 use Rattle.from_text.proofs.build_from_text.Goals as goal
 
--- The cells behind a text that is read.
-read : (text before : List ℕ) {found : ListAnswer} {cells : List ℕ} {groups limit count : ℕ}
-    → list_outcome found ≡ answered_by head_of (list_from_text text) → found ≡ Listed groups limit count
-    → cells ≡ cells_after (list_from_text text) before → ReadInto text cells groups limit count
-read text before answer is cells = read-into text before (sym (ap list_outcome is) ∙ answer) cells
+pub returns-in_err-groups : goal.returns-in_err-groups
+returns-in_err-groups c =
+    let all = promised-unread _ _ (refused-of-by head_of _ (sym c.in_err-groups.ensures.answer)) refl in
+    rw (passed_up _ _ c.from_residual.ensures) record { answer = all.0; bytes = all.1.0; condition3 = all.1.1 }
 
 pub slice_bounds-cells-end : goal.slice_bounds-cells-end
-slice_bounds-cells-end c = omega (arith, (read _ _ c.read_text.ensures.answer c.in-Listed.is c.read_text.ensures.cells).fits)
+slice_bounds-cells-end c = omega (arith, (read-into _ _ c.in_ok-groups.ensures.answer c.in_ok-groups.ensures.cells).fits)
 
 pub slice_bounds-build-end : goal.slice_bounds-build-end
-slice_bounds-build-end c = (read _ _ c.read_text.ensures.answer c.in-Listed.is c.read_text.ensures.cells).counted
+slice_bounds-build-end c = (read-into _ _ c.in_ok-groups.ensures.answer c.in_ok-groups.ensures.cells).counted
 
-pub returns-in-Listed : goal.returns-in-Listed
-returns-in-Listed c =
+pub returns : goal.returns
+returns c =
     let e = c.build.ensures in
-    let all = promised-read _ _ (read _ _ c.read_text.ensures.answer c.in-Listed.is c.read_text.ensures.cells).outcome (
-      e.answer,
-      (e.plan, (e.bytes, e.condition3)),
-    ) in
-    record { answer = all.0; bytes = all.1.0; condition3 = all.1.1 }
-
-pub returns-in-Refused : goal.returns-in-Refused
-returns-in-Refused c =
-    let answer = sym (ap list_outcome c.in-Refused.is) ∙ c.read_text.ensures.answer in
-    let all = promised-unread _ _ (refused-of-by head_of _ (sym answer)) refl in
+    let read = (read-into _ _ c.in_ok-groups.ensures.answer c.in_ok-groups.ensures.cells).outcome in
+    let all = promised-read _ _ read (e.answer, (e.plan, (e.bytes, e.condition3))) in
     record { answer = all.0; bytes = all.1.0; condition3 = all.1.1 }

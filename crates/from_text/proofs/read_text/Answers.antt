@@ -12,7 +12,10 @@ unfolding cells_after
 returns-then-text-gt-TEXT_MAX c =
     let a = c.args in
     let long = text-long a.text.now c.if-text-gt-TEXT_MAX.true in
-    record { answer = sym (by-refused head_of long); cells = sym (ap (λ (o : Outcome Listed). cells_after o a.cells.now) long) }
+    record {
+      answer = rw c.into.ensures (sym (by-refused head_of long));
+      cells = sym (ap (λ (o : Outcome Listed). cells_after o a.cells.now) long);
+    }
 
 pub returns : goal.returns
 returns c =

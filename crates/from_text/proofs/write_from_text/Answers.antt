@@ -1,40 +1,27 @@
--- `from_text::write_from_text` meets its contract: what reading refuses is refused, and the tags that are read are written under the plan.
+-- `from_text::write_from_text` meets its contract: what reading refuses is refused, and a list that is read is written from the cells.
 -- Assumes nothing.
-use mathlib.Core.Path.{◌≡◌, refl, sym, ◌∙◌, ap}
-use native.Mathlib.Omega.{arith}
+use Rattle.std.specs.Prelude.{refl}
+use Rattle.std.proofs.Common.{sym, arith}
 use Rattle.refusal.proofs.OutcomeLaws.{refused-of-by}
-use Rattle.list.specs.Answer.{head_of, list_outcome}
-use Rattle.list.specs.Reading.{cells_after}
-use Rattle.list.specs.declared.ListAnswer.{ListAnswer}
-use Rattle.list.specs.declared.ListAnswer.TheVariants.{Listed}
-use Rattle.numbering.specs.FromText.{list_from_text}
-use Rattle.refusal.specs.Outcome.{answered_by}
-use Prim.Native.Nat.{ℕ}
-use mathlib.Core.List.{List}
-use Rattle.from_text.specs.PromiseLaws.{ReadInto, read-into, write-unread, write_read}
+use Rattle.refusal.proofs.AnswerLaws.{passed_up}
+use Rattle.list.specs.Answer.{head_of}
+use Rattle.from_text.specs.PromiseLaws.{read-into, write-unread, write_read}
 use Rattle.from_text.proofs.write_from_text.Goals as goal
 
--- The cells behind a text that is read.
-read : (text before : List ℕ) {found : ListAnswer} {cells : List ℕ} {groups limit count : ℕ}
-    → list_outcome found ≡ answered_by head_of (list_from_text text) → found ≡ Listed groups limit count
-    → cells ≡ cells_after (list_from_text text) before → ReadInto text cells groups limit count
-read text before answer is cells = read-into text before (sym (ap list_outcome is) ∙ answer) cells
+pub returns-in_err-listed : goal.returns-in_err-listed
+returns-in_err-listed c =
+    let all = write-unread _ _ _ (refused-of-by head_of _ (sym c.in_err-listed.ensures.answer)) refl in
+    rw (passed_up _ _ c.from_residual.ensures) record { answer = all.0; bytes = all.1.0; condition3 = all.1.1 }
 
 pub slice_bounds-cells-end : goal.slice_bounds-cells-end
-slice_bounds-cells-end c = omega (arith, (read _ _ c.read_text.ensures.answer c.in-Listed.is c.read_text.ensures.cells).fits)
+slice_bounds-cells-end c = omega (arith, (read-into _ _ c.in_ok-listed.ensures.answer c.in_ok-listed.ensures.cells).fits)
 
 pub slice_bounds-write_list-end : goal.slice_bounds-write_list-end
-slice_bounds-write_list-end c = (read _ _ c.read_text.ensures.answer c.in-Listed.is c.read_text.ensures.cells).counted
+slice_bounds-write_list-end c = (read-into _ _ c.in_ok-listed.ensures.answer c.in_ok-listed.ensures.cells).counted
 
-pub returns-in-Listed : goal.returns-in-Listed
-returns-in-Listed c =
+pub returns : goal.returns
+returns c =
     let e = c.write_list.ensures in
-    let all = write_read _ _ _ (read _ _ c.read_text.ensures.answer c.in-Listed.is c.read_text.ensures.cells).outcome
-    (e.answer, (e.bytes, e.condition3)) in
-    record { answer = all.0; bytes = all.1.0; condition3 = all.1.1 }
-
-pub returns-in-Refused : goal.returns-in-Refused
-returns-in-Refused c =
-    let answer = sym (ap list_outcome c.in-Refused.is) ∙ c.read_text.ensures.answer in
-    let all = write-unread _ _ _ (refused-of-by head_of _ (sym answer)) refl in
+    let read = (read-into _ _ c.in_ok-listed.ensures.answer c.in_ok-listed.ensures.cells).outcome in
+    let all = write_read _ _ _ read (e.answer, (e.bytes, e.condition3)) in
     record { answer = all.0; bytes = all.1.0; condition3 = all.1.1 }

@@ -9,19 +9,24 @@ use Rattle.hash.proofs.place_of_one_tag.Goals as goal
 pub returns-then-outside : goal.returns-then-outside
 returns-then-outside c =
     let a = c.args in
-    record { answer = sym (one-tag-size a.n a.seed a.choice a.tag (cc)) }
+    record { answer = rw c.into.ensures (sym (one-tag-size a.n a.seed a.choice a.tag (cc))) }
 
 pub returns-then-seed-gt-SEED_MAX : goal.returns-then-seed-gt-SEED_MAX
 returns-then-seed-gt-SEED_MAX c =
     let a = c.args in
     let in-range : outside 1 group_max a.n ≡ false = cc in
-    record { answer = sym (one-tag-seed a.n a.seed a.choice a.tag in-range c.if-seed-gt-SEED_MAX.true) }
+    record {
+      answer = rw c.into-then-seed-gt-SEED_MAX.ensures (sym (one-tag-seed a.n a.seed a.choice a.tag in-range c.if-seed-gt-SEED_MAX.true));
+    }
 
 pub returns-then-choice-gt1 : goal.returns-then-choice-gt1
 returns-then-choice-gt1 c =
     let a = c.args in
     let in-range : outside 1 group_max a.n ≡ false = cc in
-    record { answer = sym (one-tag-choice a.n a.seed a.choice a.tag in-range c.if-seed-gt-SEED_MAX.false c.if-choice-gt1.true) }
+    record {
+      answer = rw c.into-then-choice-gt1.ensures
+          (sym (one-tag-choice a.n a.seed a.choice a.tag in-range c.if-seed-gt-SEED_MAX.false c.if-choice-gt1.true));
+    }
 
 pub returns : goal.returns
 returns c =

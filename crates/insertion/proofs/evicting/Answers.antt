@@ -32,12 +32,12 @@ insert-requires-2 c =
 pub returns-in_default-insert : goal.returns-in_default-insert
 unfolding with_choice
 returns-in_default-insert c =
-    let first = rw c.in-Word.is at c.insert.ensures.answer in
+    let first = rw c.in-Some.is at c.insert.ensures.answer in
     let second = rw (c.with_bit-2.ensures.answer, c.in_default-insert.is) at c.insert-2.ensures.answer in
     record { answer = one-stays _ _ _ c.requires.k_lt_group_max false _ first second }
 
 pub returns : goal.returns
 returns c =
-    let first = rw c.in-Word.is at c.insert.ensures.answer in
-    let second = rw (c.with_bit-2.ensures.answer, c.in-Word-insert.is) at c.insert-2.ensures.answer in
+    let first = rw c.in-Some.is at c.insert.ensures.answer in
+    let second = rw (c.with_bit-2.ensures.answer, c.in-Some-insert.is) at c.insert-2.ensures.answer in
     record { answer = rw c.lighter.ensures.answer (lighter-stays _ _ _ c.requires.k_lt_group_max _ _ first second) }

@@ -1,10 +1,10 @@
--- `insertion::occupy` meets its contract: the cells are cleared, and hold the occupants of the first i keys. Assumes nothing.
+-- `insertion::occupy` meets its contract: the cells are cleared at once, and hold the occupants of the first i keys. Assumes nothing.
 use Prim.Native.Nat.{◌<◌}
 use mathlib.Core.Path.{◌≡◌, refl}
 use native.Mathlib.Omega.{arith}
 use Rattle.refusal.specs.Limits.{group_max}
 use Rattle.insertion.specs.Occupants.{place_taken}
-use Rattle.insertion.specs.OccupantsLaws.{cleared-turn, occupied-none, separate-free, occupied-more, occupied-only}
+use Rattle.insertion.specs.OccupantsLaws.{cleared_all, occupied-none, separate-free, occupied-more, occupied-only}
 use Rattle.insertion.proofs.occupy.Goals as goal
 use Rattle.insertion.proofs.occupy.Goals.{In-loop-i}
 
@@ -12,18 +12,8 @@ use Rattle.insertion.proofs.occupy.Goals.{In-loop-i}
 below : (c : In-loop-i) → place_taken c.args.places.now c.args.word c.loop-i.i < group_max
 below c = c.requires.count_le_group_max.1.below c.loop-i.i c.loop-i-test.true _
 
-pub loop-v-init : goal.loop-v-init
-loop-v-init c = (omega arith, record { size = c.requires.count_le_group_max.2; clear = λ u lt. absurd (omega arith) })
-
-pub loop-v-preserved : goal.loop-v-preserved
-loop-v-preserved c =
-    (omega arith, cleared-turn c.loop-v.v c.loop-v.occupants (omega arith) c.loop-v.invariant.1)
-
 pub loop-i-init : goal.loop-i-init
-loop-i-init c =
-    let at = c.loop-v in
-    let all : at.v ≡ group_max = omega arith in
-    (omega arith, occupied-none _ _ (rw all at at.invariant.1))
+loop-i-init c = (omega arith, occupied-none _ _ cleared_all)
 
 pub bounds-occupants-place : goal.bounds-occupants-place
 bounds-occupants-place c = omega (arith, c.place_taken-place.ensures.answer, below (goal.at.bounds-occupants-place c).In-loop-i)

@@ -94,20 +94,19 @@ returns-then-occupants-second-eq0 c =
       cells = free-occupied _ _ _ asked held true c.if-occupants-second-eq0.true;
     }
 
-pub returns-in_default : goal.returns-in_default
+pub returns-in_err-next-clause-cells : goal.returns-in_err-next-clause-cells
 unfolding occupants_after
-returns-in_default c = record { answer = rw c.in_default.is at c.evicting.ensures.answer; cells = refl }
+returns-in_err-next-clause-cells c = rw c.from_residual.ensures refl
 
 pub occupy-requires : goal.occupy-requires
 occupy-requires c =
     let asked = c.requires.k_lt_group_max in
-    let next = rw c.in-Word.is at c.evicting.ensures.answer in
-    let light = word-lightest c.args.places.now (c.args.k + 1) _ (omega arith) next in
+    let light = word-lightest c.args.places.now (c.args.k + 1) _ (omega arith) c.in_ok-next.ensures.answer in
     record {
       count_le_group_max = (omega arith, asked.1, cells-size _ _ _ asked c.requires.occupants_value);
       separate = light.lightest.separate;
     }
 
-pub returns : goal.returns
+pub returns-clause-cells : goal.returns-clause-cells
 unfolding occupants_after
-returns c = record { answer = rw c.in-Word.is at c.evicting.ensures.answer; cells = c.occupy.ensures.cells }
+returns-clause-cells c = c.occupy.ensures.cells

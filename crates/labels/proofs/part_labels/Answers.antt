@@ -1,16 +1,16 @@
 -- `labels::part_labels` meets its contract: each place begins with its own label, and a turn merges the labels of one key's places.
 -- Assumes nothing.
 use Prim.Native.Nat.{◌-◌, ◌<◌}
-use mathlib.Core.Path.{◌≡◌, refl, sym, ◌∙◌, ap}
+use mathlib.Core.Path.{◌≡◌, refl, sym, ◌∙◌}
 use mathlib.Core.Bool.{Bool, true, false}
 use native.Mathlib.Omega.{arith}
-use lib.ListN.{length, drop}
+use lib.ListN.{drop}
 use Rattle.refusal.specs.Limits.{group_max}
 use Rattle.lists.specs.UpTo.{up_to}
 use Rattle.graph.specs.Label.{labels_of}
 use Rattle.places.specs.Array.{entry_of, keys_of}
 use Rattle.places.proofs.ArrayLaws.{keys_of-length, keys_of-place}
-use Rattle.labels.specs.LabelsLaws.{labels_length, labels-none, labels-turn, numbered-turn, numbered-done}
+use Rattle.labels.specs.LabelsLaws.{labels-none, labels-turn, numbered-turn, numbered-done}
 use Rattle.labels.proofs.part_labels.Goals as goal
 use Rattle.labels.proofs.part_labels.Goals.{In-loop-i}
 
@@ -37,14 +37,6 @@ loop-i-init c =
     rw (keys_of-length count places) at (labels-none group_max (keys_of count places)) in
     (omega arith, at.invariant.1 ∙ numbered-done _ at.v (omega (arith, c.requires.2)) ∙ rw all (sym none))
 
-pub overflow_cast-first : goal.overflow_cast-first
-unfolding entry_of
-overflow_cast-first c = omega (arith, below (goal.at.overflow_cast-first c).In-loop-i false)
-
-pub overflow_cast-second : goal.overflow_cast-second
-unfolding entry_of
-overflow_cast-second c = omega (arith, below (goal.at.overflow_cast-second c).In-loop-i true)
-
 pub bounds-labels-first : goal.bounds-labels-first
 unfolding entry_of
 bounds-labels-first c =
@@ -54,11 +46,6 @@ pub bounds-labels-second : goal.bounds-labels-second
 unfolding entry_of
 bounds-labels-second c =
     omega (arith, below (goal.at.bounds-labels-second c).In-loop-i false, below (goal.at.bounds-labels-second c).In-loop-i true)
-
-pub merge-requires : goal.merge-requires
-merge-requires c =
-    let at = c.loop-i in
-    ap length at.invariant.1 ∙ labels_length group_max _
 
 pub loop-i-preserved : goal.loop-i-preserved
 unfolding entry_of
@@ -72,9 +59,3 @@ loop-i-preserved c =
     (rw (place false) (below (goal.at.loop-i-preserved c).In-loop-i false))
     (rw (place true) (below (goal.at.loop-i-preserved c).In-loop-i true)) in
     (omega arith, c.merge.ensures.cells ∙ rw at.invariant.1 (rw (place false, place true) at merges))
-
-pub returns : goal.returns
-returns c =
-    let at = c.loop-i in
-    let none_left : at.i ≡ 0 = omega arith in
-    record { cells = rw none_left at at.invariant.1 }

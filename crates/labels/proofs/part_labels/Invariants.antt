@@ -1,5 +1,5 @@
 -- What the loops of `labels::part_labels` keep true. Assumes nothing.
-use Prim.Native.Nat.{◌-◌, ◌≤◌}
+use Prim.Native.Nat.{◌≤◌}
 use mathlib.Core.Path.{◌≡◌}
 use mathlib.Core.List.{◌++◌}
 use lib.ListN.{drop}
@@ -12,11 +12,5 @@ use Rattle.labels.proofs.part_labels.Given as goal
 abbrev pub invariant-loop-v : goal.invariant-loop-v
 invariant-loop-v l = (l.v ≤ group_max) × (l.labels ≡ up_to l.v (λ u. u) ++ drop l.v l.initial.labels)
 
-abbrev pub decreases-loop-v : goal.decreases-loop-v
-decreases-loop-v l = group_max - l.v
-
 abbrev pub invariant-loop-i : goal.invariant-loop-i
 invariant-loop-i l = (l.i ≤ l.count) × (l.labels ≡ labels_of group_max (drop l.i (keys_of l.count l.places)))
-
-abbrev pub decreases-loop-i : goal.decreases-loop-i
-decreases-loop-i l = l.i

@@ -5,17 +5,17 @@ use borrow.Author.Tests.{le-leb, lt-leb}
 use Rattle.text.specs.Line.{group_line, within}
 use Rattle.lines.proofs.read_group_line.Goals as goal
 
-pub returns-in_default : goal.returns-in_default
+pub returns-in_err-start : goal.returns-in_err-start
 unfolding group_line within
-returns-in_default c = record { answer = rw (← c.read_pair.ensures.answer, c.in_default.is) }
+returns-in_err-start c = record { answer = rw (c.from_residual.ensures, ← c.in_err-start.ensures.answer) }
 
 pub returns-then-seed-gt-SEED_MAX : goal.returns-then-seed-gt-SEED_MAX
 unfolding group_line within
 returns-then-seed-gt-SEED_MAX c = record {
   answer =
-      rw (← c.read_pair.ensures.answer, c.in-Numbers.is, lt-leb c.in-Numbers.seed seed_max (omega arith));
+      rw (← c.in_ok-start.ensures.answer, lt-leb c.in_ok-start.seed seed_max (omega arith));
 }
 
 pub returns : goal.returns
 unfolding group_line within
-returns c = record { answer = rw (← c.read_pair.ensures.answer, c.in-Numbers.is, le-leb c.in-Numbers.seed seed_max (omega arith)) }
+returns c = record { answer = rw (← c.in_ok-start.ensures.answer, le-leb c.in_ok-start.seed seed_max (omega arith)) }

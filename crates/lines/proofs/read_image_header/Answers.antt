@@ -5,19 +5,19 @@ use Rattle.refusal.specs.Limits.{tags_max, groups_max}
 use Rattle.text.specs.Line.{image_header, within}
 use Rattle.lines.proofs.read_image_header.Goals as goal
 
-pub returns-in_default : goal.returns-in_default
+pub returns-in_err-n : goal.returns-in_err-n
 unfolding image_header within
-returns-in_default c = record { answer = rw (← c.read_pair.ensures.answer, c.in_default.is) }
+returns-in_err-n c = record { answer = rw (c.from_residual.ensures, ← c.in_err-n.ensures.answer) }
 
 pub returns-then-n-gt-TAGS_MAX : goal.returns-then-n-gt-TAGS_MAX
 unfolding image_header within
-returns-then-n-gt-TAGS_MAX c = record { answer = rw (← c.in-Numbers.ensures.answer, lt-leb c.in-Numbers.n tags_max (omega arith)) }
+returns-then-n-gt-TAGS_MAX c = record { answer = rw (← c.in_ok-n.ensures.answer, lt-leb c.in_ok-n.n tags_max (omega arith)) }
 
 pub returns-then-b-lt1 : goal.returns-then-b-lt1
 unfolding image_header within
 returns-then-b-lt1 c = record {
   answer =
-      rw (← c.in-Numbers.ensures.answer, le-leb c.in-Numbers.n tags_max (omega arith), lt-leb 1 c.in-Numbers.b (omega arith));
+      rw (← c.in_ok-n.ensures.answer, le-leb c.in_ok-n.n tags_max (omega arith), lt-leb 1 c.in_ok-n.b (omega arith));
 }
 
 pub returns-then-b-gt-GROUPS_MAX : goal.returns-then-b-gt-GROUPS_MAX
@@ -25,10 +25,10 @@ unfolding image_header within
 returns-then-b-gt-GROUPS_MAX c = record {
   answer =
       rw (
-        ← c.in-Numbers.ensures.answer,
-        le-leb c.in-Numbers.n tags_max (omega arith),
-        le-leb 1 c.in-Numbers.b (omega arith),
-        lt-leb c.in-Numbers.b groups_max (omega arith),
+        ← c.in_ok-n.ensures.answer,
+        le-leb c.in_ok-n.n tags_max (omega arith),
+        le-leb 1 c.in_ok-n.b (omega arith),
+        lt-leb c.in_ok-n.b groups_max (omega arith),
       );
 }
 
@@ -37,9 +37,9 @@ unfolding image_header within
 returns c = record {
   answer =
       rw (
-        ← c.in-Numbers.ensures.answer,
-        le-leb c.in-Numbers.n tags_max (omega arith),
-        le-leb 1 c.in-Numbers.b (omega arith),
-        le-leb c.in-Numbers.b groups_max (omega arith),
+        ← c.in_ok-n.ensures.answer,
+        le-leb c.in_ok-n.n tags_max (omega arith),
+        le-leb 1 c.in_ok-n.b (omega arith),
+        le-leb c.in_ok-n.b groups_max (omega arith),
       );
 }

@@ -7,12 +7,11 @@ use Prim.Native.Nat.{ℕ, ◌+◌, ◌*◌, ◌-◌}
 use lib.ListN.{take, drop}
 use native.Mathlib.Omega.{arith}
 use Rattle.lists.proofs.SearchLaws.{searched-done}
-use Rattle.text.specs.declared.Tag.{Tag}
-use Rattle.text.specs.Answer.{tag_meaning}
+use Rattle.std.specs.Prelude.{Option}
 use Rattle.text.specs.Line.{line_length, line_at, within, tag_of}
 use lib.Dec.{ltb}
 use Rattle.refusal.specs.Limits.{tag_end}
-use Rattle.text.proofs.LineLaws.{line_reads}
+use Rattle.text.proofs.LineLaws.{line_said}
 use Rattle.text.specs.TagLines.{tag_in}
 use Rattle.text.proofs.PartLaws.{part-whole}
 use Rattle.lines.proofs.Examined.{examined-start, examined-turn, examined-found}
@@ -20,13 +19,13 @@ use Rattle.lines.proofs.read_tag_lines.Goals as goal
 use Rattle.lines.proofs.read_tag_lines.Goals.{then-k-from-lt-TAG_CELLS, else-k-from-lt-TAG_CELLS}
 
 -- What the reader of a line, lent its part of the text, says of line k.
-states : (bytes : List ℕ) (k : ℕ) {found told : Tag}
-    → tag_meaning found
+states : (bytes : List ℕ) (k : ℕ) {found told : Option ℕ}
+    → found
     ≡ within (λ t. ltb t tag_end) (tag_of (take (line_length * k + line_length - line_length * k) (drop (line_length * k) bytes)))
-    → found ≡ told → tag_in (line_at k bytes) ≡ tag_meaning told
+    → found ≡ told → tag_in (line_at k bytes) ≡ told
 unfolding tag_in
 states bytes k answer e =
-    line_reads tag_meaning tag_in bytes k k (answer ∙ rw (part-whole bytes (line_length * k) line_length)) e refl
+    line_said tag_in bytes k k (answer ∙ rw (part-whole bytes (line_length * k) line_length)) e refl
 
 pub loop-k-init : goal.loop-k-init
 loop-k-init c = examined-start _ _ _ _ c.requires.from_le_end.0
@@ -42,7 +41,7 @@ returns-in_default c =
 pub loop-k-preserved : goal.loop-k-preserved
 loop-k-preserved c =
     let long = c.requires.from_le_end.1 in
-    examined-turn c.loop-k.invariant c.loop-k-test.true (states _ _ c.tag_in.ensures.answer c.in-Number.is)
+    examined-turn c.loop-k.invariant c.loop-k-test.true (states _ _ c.tag_in.ensures.answer c.in-Some.is)
     (elim c.if-k-from-lt-TAG_CELLS.branch [
       | then-k-from-lt-TAG_CELLS w ↦ inl (omega (arith, long), w.cells-is)
       | else-k-from-lt-TAG_CELLS w ↦ inr (omega (arith, long), w.cells-is)

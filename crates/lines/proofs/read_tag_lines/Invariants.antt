@@ -1,10 +1,6 @@
 -- What the loops of `lines::read_tag_lines` keep true. Assumes nothing.
-use Prim.Native.Nat.{◌-◌}
 use Rattle.lines.proofs.Examined.{Examined}
 use Rattle.lines.proofs.read_tag_lines.Given as goal
 
 abbrev pub invariant-loop-k : goal.invariant-loop-k
 invariant-loop-k l = Examined l.bytes l.from l.end l.initial.cells l.cells l.k
-
-abbrev pub decreases-loop-k : goal.decreases-loop-k
-decreases-loop-k l = l.end - l.k

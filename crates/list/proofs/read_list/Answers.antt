@@ -6,19 +6,17 @@ use Prim.Native.Nat.{ℕ, ◌≤◌, ◌/◌, ◌%◌}
 use native.Mathlib.Omega.{arith}
 use lib.ListN.{length, take, drop}
 use Rattle.refusal.specs.Outcome.{Outcome, answered, refused, answered_by}
+use Rattle.refusal.specs.Reason.{refusal_of}
 use Rattle.refusal.proofs.OutcomeLaws.{by-answered, by-refused}
-use Rattle.refusal.specs.declared.First.{First}
-use Rattle.refusal.specs.Answer.{first_meaning}
 use Rattle.lists.specs.First.{first}
-use Rattle.text.specs.declared.Pair.{Pair}
 use Rattle.text.specs.Line.{line_length, line_at, list_header}
 use Rattle.text.specs.TagLines.{no_tag_from}
-use mathlib.Core.Option.{some}
-use Rattle.text.proofs.LineLaws.{line_reads}
+use Rattle.std.specs.Prelude.{Option, Some}
+use Rattle.text.proofs.LineLaws.{line_said}
 use Rattle.text.proofs.TagLinesLaws.{stored-length, stored-tags}
-use Rattle.text.specs.Answer.{pair_meaning}
 use Rattle.list.specs.Reading.{malformed, line_count, tag_count, tags_from, listed_in, reading_of, cells_after}
-use Rattle.list.specs.Answer.{ListHead, head_of}
+use Rattle.list.specs.Answer.{head_of}
+use Rattle.list.specs.declared.ListHead.{ListHead}
 use Rattle.list.proofs.ReadingLaws.{Whole, header-malformed, malformed-lines, tags-on, tags_from-length, head-is, read_short}
 use Rattle.list.proofs.ReadingLaws.{read-uneven, read-header-malformed, read-malformed, read-many, read-narrow, read-answered}
 use Rattle.list.proofs.read_list.Goals as goal
@@ -44,21 +42,21 @@ module _ (text before : List ℕ) where
 whole : (text : List ℕ) → line_length ≤ length text → length text % line_length ≡ 0 → Whole text
 whole text long even = record { long = long; even = even }
 
-header : (text : List ℕ) {answer told : Pair} → pair_meaning answer ≡ list_header (take line_length (drop 0 text)) → answer ≡ told
-    → list_header (line_at 0 text) ≡ pair_meaning told
-header text read e = line_reads pair_meaning list_header text 0 0 read e refl
+header : (text : List ℕ) {answer told : Option (ℕ × ℕ)} → answer ≡ list_header (take line_length (drop 0 text)) → answer ≡ told
+    → list_header (line_at 0 text) ≡ told
+header text read e = line_said list_header text 0 0 read e refl
 
-found : (text : List ℕ) {h : ℕ × ℕ} {answer told : First} → list_header (line_at 0 text) ≡ some h
-    → first_meaning answer ≡ first (no_tag_from 1 text) (length text / line_length) → answer ≡ told
-    → first (malformed text) (line_count text) ≡ first_meaning told
+found : (text : List ℕ) {h : ℕ × ℕ} {answer told : Option ℕ} → list_header (line_at 0 text) ≡ Some h
+    → answer ≡ first (no_tag_from 1 text) (length text / line_length) → answer ≡ told
+    → first (malformed text) (line_count text) ≡ told
 unfolding line_count
-found text header read e = malformed-lines text header (length text / line_length) read ∙ ap first_meaning e
+found text header read e = malformed-lines text header (length text / line_length) read ∙ e
 
 pub returns-then-text-lt-LINE_LENGTH : goal.returns-then-text-lt-LINE_LENGTH
 unfolding Promised
 returns-then-text-lt-LINE_LENGTH c =
     let a = c.args in
-    let both = refuses a.text.now a.cells.now (read_short a.text.now _ c.if-text-lt-LINE_LENGTH.true) c.malformed.ensures.answer in
+    let both = refuses a.text.now a.cells.now (read_short a.text.now _ c.if-text-lt-LINE_LENGTH.true) (ap refusal_of c.into.ensures) in
     record { answer = both.0; cells = both.1 }
 
 pub returns-then-text-ne0 : goal.returns-then-text-ne0
@@ -67,7 +65,7 @@ returns-then-text-ne0 c =
     let a = c.args in
     let text = a.text.now in
     let both = refuses text a.cells.now
-    (read-uneven text _ c.if-text-lt-LINE_LENGTH.false c.if-text-ne0.true) c.malformed-then-text-ne0.ensures.answer in
+    (read-uneven text _ c.if-text-lt-LINE_LENGTH.false c.if-text-ne0.true) (ap refusal_of c.into-then-text-ne0.ensures) in
     record { answer = both.0; cells = both.1 }
 
 pub returns-in_default : goal.returns-in_default
@@ -76,20 +74,20 @@ returns-in_default c =
     let text = c.args.text.now in
     let full = whole text c.if-text-lt-LINE_LENGTH.false c.if-text-ne0.false in
     let none_read = header-malformed text (header text c.read_list_header.ensures.answer c.in_default.is) in
-    let both = refuses text _ (read-header-malformed text _ full none_read) c.malformed-in_default.ensures.answer in
+    let both = refuses text _ (read-header-malformed text _ full none_read) (ap refusal_of c.into-in_default.ensures) in
     record { answer = both.0; cells = both.1 }
 
 pub read_tag_lines-requires : goal.read_tag_lines-requires
 read_tag_lines-requires c = record { from_le_end = (omega (arith, c.if-text-lt-LINE_LENGTH.false), omega arith); cells_len = refl }
 
-pub returns-in-At : goal.returns-in-At
+pub returns-in-Some-read_tag_lines : goal.returns-in-Some-read_tag_lines
 unfolding Promised
-returns-in-At c =
+returns-in-Some-read_tag_lines c =
     let text = c.args.text.now in
     let full = whole text c.if-text-lt-LINE_LENGTH.false c.if-text-ne0.false in
-    let head = header text c.read_list_header.ensures.answer c.in-Numbers.is in
-    let both = refuses text _ (read-malformed text _ full (found text head c.read_tag_lines.ensures.answer c.in-At.is))
-    c.malformed-in-At.ensures.answer in
+    let head = header text c.read_list_header.ensures.answer c.in-Some.is in
+    let both = refuses text _ (read-malformed text _ full (found text head c.read_tag_lines.ensures.answer c.in-Some-read_tag_lines.is))
+    (ap refusal_of c.at.ensures.answer) in
     record { answer = both.0; cells = both.1 }
 
 pub returns-then-count-gt-TAGS_MAX : goal.returns-then-count-gt-TAGS_MAX
@@ -97,9 +95,10 @@ unfolding Promised tag_count line_count
 returns-then-count-gt-TAGS_MAX c =
     let text = c.args.text.now in
     let full = whole text c.if-text-lt-LINE_LENGTH.false c.if-text-ne0.false in
-    let head = header text c.read_list_header.ensures.answer c.in-Numbers.is in
+    let head = header text c.read_list_header.ensures.answer c.in-Some.is in
     let none = found text head c.read_tag_lines.ensures.answer c.in_default-read_tag_lines.is in
-    let both = refuses text _ (read-many text _ full none c.if-count-gt-TAGS_MAX.true) refl in
+    let both = refuses text _ (read-many text _ full none c.if-count-gt-TAGS_MAX.true)
+    (ap refusal_of c.into-then-count-gt-TAGS_MAX.ensures) in
     record { answer = both.0; cells = both.1 }
 
 pub returns-then-cells-count : goal.returns-then-cells-count
@@ -107,9 +106,10 @@ unfolding Promised tag_count line_count
 returns-then-cells-count c =
     let text = c.args.text.now in
     let full = whole text c.if-text-lt-LINE_LENGTH.false c.if-text-ne0.false in
-    let head = header text c.read_list_header.ensures.answer c.in-Numbers.is in
+    let head = header text c.read_list_header.ensures.answer c.in-Some.is in
     let none = found text head c.read_tag_lines.ensures.answer c.in_default-read_tag_lines.is in
-    let both = refuses text _ (read-narrow text _ full none c.if-count-gt-TAGS_MAX.false c.if-cells-count.true) refl in
+    let both = refuses text _ (read-narrow text _ full none c.if-count-gt-TAGS_MAX.false c.if-cells-count.true)
+    (ap refusal_of c.into-then-cells-count.ensures) in
     record { answer = both.0; cells = both.1 }
 
 pub slice_bounds-copy-end : goal.slice_bounds-copy-end
@@ -126,9 +126,8 @@ unfolding Promised tag_count line_count
 returns c =
     let text = c.args.text.now in
     let full = whole text c.if-text-lt-LINE_LENGTH.false c.if-text-ne0.false in
-    let head = header text c.read_list_header.ensures.answer c.in-Numbers.is in
-    let none = ap first_meaning c.in_default-read_tag_lines.is in
-    let stored = rw none at c.read_tag_lines.ensures.cells in
+    let head = header text c.read_list_header.ensures.answer c.in-Some.is in
+    let stored = rw c.in_default-read_tag_lines.is at c.read_tag_lines.ensures.cells in
     let tags = tag_count text in
     let both = reads text c.args.cells.now
     (read-answered text _ full (found text head c.read_tag_lines.ensures.answer c.in_default-read_tag_lines.is)

@@ -4,20 +4,18 @@ use mathlib.Core.Bool.{or-true}
 use mathlib.Core.List.{List}
 use Prim.Native.Nat.{ℕ, ◌+◌, ◌*◌}
 use lib.ListN.{take, drop}
-use Rattle.text.specs.declared.Pair.{Pair}
-use Rattle.lookup.specs.declared.GroupEnd.{GroupEnd}
+use Rattle.std.specs.Prelude.{Option}
 use native.Mathlib.Omega.{arith}
 use borrow.Author.Tests.{lt-ltb}
 use Rattle.refusal.specs.Outcome.{Outcome}
+use Rattle.refusal.specs.Reason.{refusal_of}
 use Rattle.hash.specs.Formula.{group_of}
 use Rattle.hash.proofs.FormulaLaws.{group-below}
 use Rattle.text.specs.Line.{line_length, line_at, group_line}
-use Rattle.text.proofs.LineLaws.{line_reads, group-only}
-use Rattle.text.specs.Answer.{pair_meaning}
+use Rattle.text.proofs.LineLaws.{line_said, group-only}
 use Rattle.image.specs.Lookup.{Found}
 use Rattle.image.specs.View.{view_of}
 use Rattle.image.proofs.FaultLaws.{fair-of-faulty}
-use Rattle.lookup.specs.Answer.{end_meaning}
 use Rattle.lookup.specs.Steps.{end_of, group_outcome}
 use Rattle.lookup.specs.StepsLaws.{own-malformed, next-malformed, group-faulty, group-slots}
 use Rattle.lookup.proofs.in_group.Goals as goal
@@ -28,14 +26,14 @@ answers : (image : List ℕ) (t groups : ℕ) {g : ℕ} {outcome : Outcome Found
 answers image t groups is e = rw (← is) e
 
 -- The group's own line, and its end.
-own : (image : List ℕ) (g : ℕ) {found told : Pair}
-    → pair_meaning found ≡ group_line (take line_length (drop (line_length * (1 + g)) image)) → found ≡ told
-    → group_line (line_at (1 + g) image) ≡ pair_meaning told
-own image g answer is = line_reads pair_meaning group_line image (1 + g) (1 + g) answer is refl
+own : (image : List ℕ) (g : ℕ) {found told : Option (ℕ × ℕ)}
+    → found ≡ group_line (take line_length (drop (line_length * (1 + g)) image)) → found ≡ told
+    → group_line (line_at (1 + g) image) ≡ told
+own image g answer is = line_said group_line image (1 + g) (1 + g) answer is refl
 
-ends : (image : List ℕ) (g : ℕ) {found told : GroupEnd} → end_meaning found ≡ end_of (view_of image) g → found ≡ told
-    → end_of (view_of image) g ≡ end_meaning told
-ends image g answer is = sym answer ∙ ap end_meaning is
+ends : (image : List ℕ) (g : ℕ) {found told : Option ℕ} → found ≡ end_of (view_of image) g → found ≡ told
+    → end_of (view_of image) g ≡ told
+ends image g answer is = sym answer ∙ is
 
 pub returns-in_default : goal.returns-in_default
 returns-in_default c =
@@ -43,7 +41,7 @@ returns-in_default c =
     let g = c.group_of-g.result in
     record {
       answer = answers image c.args.tag c.args.groups c.group_of-g.ensures.answer
-          (c.malformed.ensures.answer
+          (ap refusal_of c.at.ensures.answer
           ∙ sym (own-malformed image c.args.tag g _ (omega arith) (own image g c.read_group_line.ensures.answer c.in_default.is)));
     }
 
@@ -57,34 +55,34 @@ pub returns-in_default-group_end : goal.returns-in_default-group_end
 returns-in_default-group_end c =
     let image = c.args.image.now in
     let g = c.group_of-g.result in
-    let line = own image g c.read_group_line.ensures.answer c.in-Numbers.is in
+    let line = own image g c.read_group_line.ensures.answer c.in-Some.is in
     let end = ends image g c.group_end.ensures.answer c.in_default-group_end.is in
     record {
       answer = answers image c.args.tag c.args.groups c.group_of-g.ensures.answer
-          (c.malformed-in_default-group_end.ensures.answer ∙ sym (next-malformed image c.args.tag g _ (omega arith) _ _ line end));
+          (ap refusal_of c.at-in_default-group_end.ensures.answer ∙ sym (next-malformed image c.args.tag g _ (omega arith) _ _ line end));
     }
 
 pub returns-then-faulty : goal.returns-then-faulty
 returns-then-faulty c =
     let image = c.args.image.now in
     let g = c.group_of-g.result in
-    let line = own image g c.read_group_line.ensures.answer c.in-Numbers.is in
-    let end = ends image g c.group_end.ensures.answer c.in-At.is in
+    let line = own image g c.read_group_line.ensures.answer c.in-Some.is in
+    let end = ends image g c.group_end.ensures.answer c.in-Some-group_end.is in
     let fault = sym c.faulty.ensures.answer ∙ c.if-faulty.true in
     record {
       answer = answers image c.args.tag c.args.groups c.group_of-g.ensures.answer
-          (c.faulty-then-faulty.ensures.answer ∙ sym (group-faulty image c.args.tag g _ (omega arith) _ _ line _ end (rw fault)));
+          (ap refusal_of c.at-then-faulty.ensures.answer ∙ sym (group-faulty image c.args.tag g _ (omega arith) _ _ line _ end (rw fault)));
     }
 
 pub returns-then-count-end : goal.returns-then-count-end
 returns-then-count-end c =
     let image = c.args.image.now in
     let g = c.group_of-g.result in
-    let line = own image g c.read_group_line.ensures.answer c.in-Numbers.is in
-    let end = ends image g c.group_end.ensures.answer c.in-At.is in
+    let line = own image g c.read_group_line.ensures.answer c.in-Some.is in
+    let end = ends image g c.group_end.ensures.answer c.in-Some-group_end.is in
     record {
       answer = answers image c.args.tag c.args.groups c.group_of-g.ensures.answer
-          (c.faulty-then-count-end.ensures.answer
+          (ap refusal_of c.at-then-count-end.ensures.answer
           ∙ sym (group-faulty image c.args.tag g _ (omega arith) _ _ line _ end
           (rw (c.requires.count-is, lt-ltb _ _ c.if-count-end.true, or-true))));
     }
@@ -94,7 +92,7 @@ in_slots-requires c =
     let image = c.args.image.now in
     let g = c.group_of-g.result in
     let pre = c.requires in
-    let line = own image g c.read_group_line.ensures.answer c.in-Numbers.is in
+    let line = own image g c.read_group_line.ensures.answer c.in-Some.is in
     let fair = fair-of-faulty g _ _ (sym c.faulty.ensures.answer ∙ c.if-faulty.false) in
     record {
       image_value = pre.groups-is;
@@ -106,8 +104,8 @@ pub returns : goal.returns
 returns c =
     let image = c.args.image.now in
     let g = c.group_of-g.result in
-    let line = own image g c.read_group_line.ensures.answer c.in-Numbers.is in
-    let end = ends image g c.group_end.ensures.answer c.in-At.is in
+    let line = own image g c.read_group_line.ensures.answer c.in-Some.is in
+    let end = ends image g c.group_end.ensures.answer c.in-Some-group_end.is in
     record {
       answer = answers image c.args.tag c.args.groups c.group_of-g.ensures.answer
           (c.in_slots.ensures.answer

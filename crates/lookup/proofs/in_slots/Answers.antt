@@ -1,14 +1,14 @@
 -- `lookup::in_slots` meets its contract: a slot's line is malformed, holds the tag, or leaves it to the next choice. Assumes nothing.
 use mathlib.Core.Path.{◌≡◌, refl, sym, ◌∙◌, ap}
 use mathlib.Core.List.{List}
-use mathlib.Core.Option.{some}
+use Rattle.std.specs.Prelude.{Some}
 use Prim.Native.Nat.{ℕ, ◌+◌, ◌-◌, ◌<◌}
 use native.Mathlib.Omega.{arith}
+use Rattle.refusal.specs.Reason.{refusal_of}
 use Rattle.hash.specs.Formula.{place_of}
 use Rattle.hash.proofs.FormulaLaws.{place-below}
 use Rattle.text.specs.Line.{slot_line}
-use Rattle.text.proofs.LineLaws.{line_reads}
-use Rattle.text.specs.Answer.{tag_meaning}
+use Rattle.text.proofs.LineLaws.{line_said}
 use Rattle.image.specs.View.{view_of}
 use Rattle.image.specs.Lookup.{at_slot}
 use Rattle.lookup.specs.Steps.{slots_of, slots_from}
@@ -41,27 +41,28 @@ overflow_add-slot c =
 pub returns-in_default : goal.returns-in_default
 returns-in_default c =
     let a = c.args in
-    let line = line_reads tag_meaning slot_line a.image.now _ _ c.read_slot_line.ensures.answer c.in_default.is refl in
+    let line = line_said slot_line a.image.now _ _ c.read_slot_line.ensures.answer c.in_default.is refl in
     let left =
     looked a.image.now a.start a.end a.seed a.tag _ c.loop-choice.invariant c.loop-choice-test.true
     c.place_of.ensures.answer in
-    record { answer = c.malformed.ensures.answer ∙ sym (left ∙ slot-malformed a.image.now a.groups a.tag _ c.requires.image_value _ line) }
+    let malformed = slot-malformed a.image.now a.groups a.tag _ c.requires.image_value _ line in
+    record { answer = ap refusal_of c.at.ensures.answer ∙ sym (left ∙ malformed) }
 
 pub returns-then-held-tag : goal.returns-then-held-tag
 returns-then-held-tag c =
     let a = c.args in
-    let told = c.in-Number.is in
-    let line = line_reads tag_meaning slot_line a.image.now _ _ c.read_slot_line.ensures.answer told refl in
+    let told = c.in-Some.is in
+    let line = line_said slot_line a.image.now _ _ c.read_slot_line.ensures.answer told refl in
     let left =
     looked a.image.now a.start a.end a.seed a.tag _ c.loop-choice.invariant c.loop-choice-test.true
     c.place_of.ensures.answer in
-    record { answer = sym (left ∙ slot-holds a.image.now a.groups a.tag _ c.requires.image_value _ (line ∙ ap some c.if-held-tag.true)) }
+    record { answer = sym (left ∙ slot-holds a.image.now a.groups a.tag _ c.requires.image_value _ (line ∙ ap Some c.if-held-tag.true)) }
 
 pub loop-choice-preserved : goal.loop-choice-preserved
 loop-choice-preserved c =
     let a = c.args in
-    let told = c.in-Number.is in
-    let line = line_reads tag_meaning slot_line a.image.now _ _ c.read_slot_line.ensures.answer told refl in
+    let told = c.in-Some.is in
+    let line = line_said slot_line a.image.now _ _ c.read_slot_line.ensures.answer told refl in
     let left =
     looked a.image.now a.start a.end a.seed a.tag _ c.loop-choice.invariant c.loop-choice-test.true
     c.place_of.ensures.answer in

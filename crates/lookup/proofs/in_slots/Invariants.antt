@@ -13,6 +13,3 @@ pub record Left (image : List ℕ) (start end seed t choice : ℕ) : Type 0 wher
 
 abbrev pub invariant-loop-choice : goal.invariant-loop-choice
 invariant-loop-choice l = Left l.image l.start l.end l.seed l.tag l.choice
-
-abbrev pub decreases-loop-choice : goal.decreases-loop-choice
-decreases-loop-choice l = 2 - l.choice

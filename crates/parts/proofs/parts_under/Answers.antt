@@ -1,11 +1,9 @@
 -- `parts::parts_under` meets its contract: the arrays state the group's keys and their labels, by which the parts are counted. Assumes
 -- nothing.
 use Prim.Native.Nat.{ℕ}
-use mathlib.Core.Path.{◌≡◌, refl, sym, ◌∙◌, ap}
-use mathlib.Core.Bool.{Bool, true, false, not}
+use mathlib.Core.Path.{◌≡◌, refl, ◌∙◌, ap}
 use mathlib.Core.List.{List}
 use lib.ListN.{length}
-use Rattle.refusal.specs.Outcome.{answered}
 use Rattle.group.specs.Group.{group_under}
 use Rattle.group.proofs.GroupLaws.{group-below}
 use Rattle.places.specs.Array.{Candidates, keys_of}
@@ -14,7 +12,7 @@ use Rattle.graph.specs.Parts.{parts_of}
 use Rattle.tally.specs.Tally.{Graphed}
 use Rattle.tally.specs.TallyLaws.{labels-below, parts-counted}
 use Rattle.parts.proofs.parts_under.Goals as goal
-use Rattle.parts.proofs.parts_under.Goals.{After-candidate_places, After-has_more_edges, After-part_labels}
+use Rattle.parts.proofs.parts_under.Goals.{After-candidate_places, After-part_labels}
 
 -- The cells once the places are laid out.
 abbrev cells : After-candidate_places → List ℕ
@@ -49,29 +47,9 @@ pub count_edges-requires : goal.count_edges-requires
 count_edges-requires c =
     let g = graphed (goal.at.count_edges-requires c).After-part_labels in (g.few, g.stated, labels-below g, refl)
 
--- Both counts together.
-counted : (c : After-has_more_edges) (more : Bool) → c.has_more_edges.result ≡ more
-    → Graphed c.candidate_places.new.places c.part_labels.new.labels (length c.args.tags.now)
-    → keys_of (length c.args.tags.now) c.candidate_places.new.places ≡ group_under c.args.tags.now c.args.seed
-    → answered (record { serves = not more; number = c.part_count-parts.result })
-    ≡ answered (parts_of (length c.args.tags.now) (group_under c.args.tags.now c.args.seed))
-counted c more e g keys =
-    ap answered (parts-counted g c.count_points.ensures.cells c.count_edges.ensures.cells _ more
-    c.part_count-parts.ensures.answer (sym e ∙ c.has_more_edges.ensures.answer)
-    ∙ ap (parts_of (length c.args.tags.now)) keys)
-
-pub returns-then-has_more_edges : goal.returns-then-has_more_edges
-returns-then-has_more_edges c =
-    let at = goal.at.returns-then-has_more_edges c in
-    record {
-      answer = counted at.After-has_more_edges true c.if-has_more_edges.true (graphed at.After-part_labels)
-          (keys-are at.After-candidate_places);
-    }
-
-pub returns-else-has_more_edges : goal.returns-else-has_more_edges
-returns-else-has_more_edges c =
-    let at = goal.at.returns-else-has_more_edges c in
-    record {
-      answer = counted at.After-has_more_edges false c.if-has_more_edges.false (graphed at.After-part_labels)
-          (keys-are at.After-candidate_places);
-    }
+pub returns : goal.returns
+returns c =
+    let at = goal.at.returns c in
+    let counted = parts-counted (graphed at.After-part_labels) c.count_points.ensures.cells c.count_edges.ensures.cells _ _
+    c.part_count.ensures.answer c.has_more_edges.ensures.answer in
+    record { answer = counted ∙ ap (parts_of (length c.args.tags.now)) (keys-are at.After-candidate_places) }

@@ -4,7 +4,7 @@ use Prim.Native.Nat.{◌≤◌}
 use native.Mathlib.Omega.{arith}
 use lib.ListN.{length, get_or}
 use Rattle.numbering.proofs.PartsLaws.{part-bounds}
-use Rattle.placing.specs.Answer.{seed_outcome}
+use Rattle.refusal.specs.Answer.{outcome}
 use Rattle.plan.proofs.Search.{found-start, found_turn, found-without, found-done}
 use Rattle.plan.proofs.plan_groups.Goals as goal
 use Rattle.plan.proofs.plan_groups.Goals.{In-loop-g}
@@ -31,12 +31,12 @@ slice_bounds-group_seed-count c = (bounds (goal.at.slice_bounds-group_seed-count
 pub returns-in_default : goal.returns-in_default
 returns-in_default c =
     let inv = c.loop-g.invariant in
-    let outcome = sym c.group_seed.ensures.answer ∙ ap seed_outcome c.in_default.is in
+    let outcome = sym c.group_seed.ensures.answer ∙ ap outcome c.in_default.is in
     record { answer = sym (found-without c.requires.0 inv c.loop-g-test.true outcome); seeds = inv.seeds-are }
 
 pub loop-g-preserved : goal.loop-g-preserved
 loop-g-preserved c =
-    let outcome = sym c.group_seed.ensures.answer ∙ ap seed_outcome c.in-Seed.is in
+    let outcome = sym c.group_seed.ensures.answer ∙ ap outcome c.in-Ok.is in
     found_turn c.requires.0 c.loop-g.invariant c.loop-g-test.true outcome
     (omega (arith, c.requires.1, c.requires.2))
 

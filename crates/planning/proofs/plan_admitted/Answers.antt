@@ -3,8 +3,8 @@ use mathlib.Core.Path.{refl, sym, ◌∙◌, ap}
 use Prim.Native.Nat.{ℕ, ◌≤◌}
 use mathlib.Core.List.{List}
 use Rattle.planning.specs.Arrays.{Admitted}
+use Rattle.refusal.specs.Reason.{refusal_of}
 use Rattle.refusal.specs.Limits.{groups_max}
-use Rattle.refusal.specs.Answer.{first_meaning}
 use Rattle.numbering.specs.Planning.{earlier_checks}
 use Rattle.numbering.proofs.PlanningLaws.{planning-refused, plan-refused}
 use Rattle.order.specs.SortedLaws.{cells-ordered}
@@ -21,29 +21,32 @@ order_by_group-requires c = record {
   ends_len = (refl, refl);
 }
 
-pub returns-in-At : goal.returns-in-At
+pub returns-in-Some : goal.returns-in-Some
 unfolding earlier_checks
-returns-in-At c =
+returns-in-Some c =
     let a = c.args in
-    let lowest = sym c.order_by_group.ensures.answer ∙ ap first_meaning c.in-At.is in
+    let lowest = sym c.order_by_group.ensures.answer ∙ c.in-Some.is in
     let outcome = planning-refused a.tags.now a.groups a.limit 10 c.requires.0.passes lowest in
-    record { answer = c.refuse.ensures.answer ∙ sym outcome; plan = c.requires.1 ∙ sym (plan-refused a.tags.now a.groups a.limit outcome) }
+    record {
+      answer = ap refusal_of c.at.ensures.answer ∙ sym outcome;
+      plan = c.requires.1 ∙ sym (plan-refused a.tags.now a.groups a.limit outcome);
+    }
 
 pub slice_bounds-plan_ordered-end : goal.slice_bounds-plan_ordered-end
 slice_bounds-plan_ordered-end c =
-    let cells = cells-ordered _ _ (legal c.requires.0) (admitted-count c.requires.0) (ap first_meaning c.in_default.is)
+    let cells = cells-ordered _ _ (legal c.requires.0) (admitted-count c.requires.0) c.in_default.is
     c.order_by_group.ensures.ends c.order_by_group.ensures.cells in
     sym cells.ordered-cells
 
 pub slice_bounds-plan_ordered-end-2 : goal.slice_bounds-plan_ordered-end-2
 slice_bounds-plan_ordered-end-2 c =
-    let cells = cells-ordered _ _ (legal c.requires.0) (admitted-count c.requires.0) (ap first_meaning c.in_default.is)
+    let cells = cells-ordered _ _ (legal c.requires.0) (admitted-count c.requires.0) c.in_default.is
     c.order_by_group.ensures.ends c.order_by_group.ensures.cells in
     sym cells.ends-cells
 
 pub plan_ordered-requires : goal.plan_ordered-requires
 plan_ordered-requires c =
-    let cells = cells-ordered _ _ (legal c.requires.0) (admitted-count c.requires.0) (ap first_meaning c.in_default.is)
+    let cells = cells-ordered _ _ (legal c.requires.0) (admitted-count c.requires.0) c.in_default.is
     c.order_by_group.ensures.ends c.order_by_group.ensures.cells in
-    let small = sym c.order_by_group.ensures.answer ∙ ap first_meaning c.in_default.is in
+    let small = sym c.order_by_group.ensures.answer ∙ c.in_default.is in
     (record { passes = passed-10 c.requires.0 small; sorted = cells.sorted }, c.requires.1)

@@ -1,16 +1,14 @@
 -- `planning::plan_list` meets its contract: each branch is the first check that is met, and the cells are zeros by then. Assumes nothing.
 use mathlib.Core.Path.{◌≡◌, refl, sym, ◌∙◌, ap}
 use mathlib.Core.List.{List}
-use mathlib.Core.Option.{some}
 use Prim.Native.Nat.{ℕ, ◌≤◌}
 use borrow.Author.Tests.{lt-ltb, le-ltb}
+use Rattle.refusal.specs.Reason.{refusal_of}
 use Rattle.refusal.specs.Outcome.{Outcome, refused}
-use Rattle.refusal.specs.Answer.{first_meaning}
 use Rattle.refusal.specs.Limits.{groups_max, limit_max, tags_max, outside}
 use Rattle.group.specs.Ascending.{not_above}
 use Rattle.group.specs.Unwired.{starts_unwired}
-use Rattle.refusal.specs.declared.First.{First}
-use Rattle.refusal.specs.declared.First.TheVariants.{Nowhere}
+use Rattle.std.specs.Prelude.{Option, Some, None}
 use Rattle.lists.specs.First.{first}
 use mathlib.Core.Bool.{Bool, false}
 use lib.ListN.{length}
@@ -30,7 +28,7 @@ module _ (tags : List ℕ) (groups limit : ℕ) where
 
   -- A check that is met where those before it pass is the refusal.
   due : (number : ℕ) {place : ℕ} {outcome : Outcome ℕ} → outcome ≡ refused number place
-      → Pass (checks_before number checks) → met_by checks number ≡ some place
+      → Pass (checks_before number checks) → met_by checks number ≡ Some place
       → Promised tags groups limit outcome no_plan
   due number is passes met = promised-refusal tags groups limit is (planning-refused tags groups limit number passes met)
 
@@ -48,10 +46,10 @@ module _ (tags : List ℕ) (groups limit : ℕ) where
   unfolding earlier_checks
   passed-5 before few = passed_on checks 5 6 refl before (met-false (le-ltb _ _ few))
 
-  passed-6 : {found : First} → Pass (checks_before 6 checks) → first_meaning found ≡ first (not_above tags) (length tags)
-      → found ≡ Nowhere → Pass (checks_before 17 checks)
+  passed-6 : {found : Option ℕ} → Pass (checks_before 6 checks) → found ≡ first (not_above tags) (length tags)
+      → found ≡ None → Pass (checks_before 17 checks)
   unfolding earlier_checks
-  passed-6 before answer is = passed_on checks 6 17 refl before (sym answer ∙ ap first_meaning is)
+  passed-6 before answer is = passed_on checks 6 17 refl before (sym answer ∙ is)
 
   passed-17 : {found : Bool} → Pass (checks_before 17 checks) → found ≡ starts_unwired tags → found ≡ false
       → Pass (checks_before 10 checks)
@@ -61,7 +59,7 @@ module _ (tags : List ℕ) (groups limit : ℕ) where
 pub returns-then-outside : goal.returns-then-outside
 unfolding earlier_checks
 returns-then-outside c =
-    let both = due c.args.tags.now c.args.groups c.args.limit 8 c.refuse.ensures.answer tt
+    let both = due c.args.tags.now c.args.groups c.args.limit 8 (ap refusal_of c.into.ensures) tt
     (met-true (sym c.outside.ensures.answer ∙ c.if-outside.true)) in
     record { answer = both.0; plan = both.1.0; condition3 = both.1.1 }
 
@@ -69,7 +67,7 @@ pub returns-then-outside-2 : goal.returns-then-outside-2
 unfolding earlier_checks
 returns-then-outside-2 c =
     let p8 = passed-8 c.args.tags.now c.args.groups c.args.limit c.outside.ensures.answer c.if-outside.false in
-    let both = due c.args.tags.now c.args.groups c.args.limit 4 c.refuse-then-outside-2.ensures.answer p8
+    let both = due c.args.tags.now c.args.groups c.args.limit 4 (ap refusal_of c.into-then-outside-2.ensures) p8
     (met-true (sym c.outside-2.ensures.answer ∙ c.if-outside-2.true)) in
     record { answer = both.0; plan = both.1.0; condition3 = both.1.1 }
 
@@ -78,18 +76,18 @@ unfolding earlier_checks
 returns-then-tags-gt-TAGS_MAX c =
     let p8 = passed-8 c.args.tags.now c.args.groups c.args.limit c.outside.ensures.answer c.if-outside.false in
     let p4 = passed-4 c.args.tags.now c.args.groups c.args.limit p8 c.outside-2.ensures.answer c.if-outside-2.false in
-    let both = due c.args.tags.now c.args.groups c.args.limit 5 c.refuse-then-tags-gt-TAGS_MAX.ensures.answer p4
+    let both = due c.args.tags.now c.args.groups c.args.limit 5 (ap refusal_of c.into-then-tags-gt-TAGS_MAX.ensures) p4
     (met-true (lt-ltb _ _ c.if-tags-gt-TAGS_MAX.true)) in
     record { answer = both.0; plan = both.1.0; condition3 = both.1.1 }
 
-pub returns-in-At : goal.returns-in-At
+pub returns-in-Some : goal.returns-in-Some
 unfolding earlier_checks
-returns-in-At c =
+returns-in-Some c =
     let p8 = passed-8 c.args.tags.now c.args.groups c.args.limit c.outside.ensures.answer c.if-outside.false in
     let p4 = passed-4 c.args.tags.now c.args.groups c.args.limit p8 c.outside-2.ensures.answer c.if-outside-2.false in
     let p5 = passed-5 c.args.tags.now c.args.groups c.args.limit p4 c.if-tags-gt-TAGS_MAX.false in
-    let both = due c.args.tags.now c.args.groups c.args.limit 6 c.refuse-in-At.ensures.answer p5
-    (sym c.first_not_above.ensures.answer ∙ ap first_meaning c.in-At.is) in
+    let both = due c.args.tags.now c.args.groups c.args.limit 6 (ap refusal_of c.at.ensures.answer) p5
+    (sym c.first_not_above.ensures.answer ∙ c.in-Some.is) in
     record { answer = both.0; plan = both.1.0; condition3 = both.1.1 }
 
 pub returns-then-starts_unwired : goal.returns-then-starts_unwired
@@ -99,7 +97,7 @@ returns-then-starts_unwired c =
     let p4 = passed-4 c.args.tags.now c.args.groups c.args.limit p8 c.outside-2.ensures.answer c.if-outside-2.false in
     let p5 = passed-5 c.args.tags.now c.args.groups c.args.limit p4 c.if-tags-gt-TAGS_MAX.false in
     let p6 = passed-6 c.args.tags.now c.args.groups c.args.limit p5 c.first_not_above.ensures.answer c.in_default.is in
-    let both = due c.args.tags.now c.args.groups c.args.limit 17 c.refuse-then-starts_unwired.ensures.answer p6
+    let both = due c.args.tags.now c.args.groups c.args.limit 17 (ap refusal_of c.into-then-starts_unwired.ensures) p6
     (met-true (sym c.starts_unwired.ensures.answer ∙ c.if-starts_unwired.true)) in
     record { answer = both.0; plan = both.1.0; condition3 = both.1.1 }
 

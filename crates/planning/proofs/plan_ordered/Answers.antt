@@ -4,8 +4,8 @@ use mathlib.Core.List.{List, ◌∷◌}
 use Prim.Native.Nat.{ℕ}
 use native.Mathlib.Omega.{arith}
 use lib.ListN.{length, replicate}
+use Rattle.refusal.specs.Reason.{refusal_of}
 use Rattle.refusal.specs.Limits.{groups_max}
-use Rattle.refusal.specs.Answer.{first_meaning}
 use Rattle.numbering.specs.Plan.{plan_of}
 use Rattle.numbering.specs.Planning.{seed_taken}
 use Rattle.numbering.proofs.PlanLaws.{plan-length}
@@ -19,12 +19,15 @@ pub plan_groups-requires : goal.plan_groups-requires
 plan_groups-requires c =
     (plannable c.requires.0, (inputs c.requires.0).groups-legal.1, refl)
 
-pub returns-in-At : goal.returns-in-At
-returns-in-At c =
+pub returns-in-Some : goal.returns-in-Some
+returns-in-Some c =
     let a = c.args in
-    let lowest = sym (seedless-first c.requires.0) ∙ sym c.plan_groups.ensures.answer ∙ ap first_meaning c.in-At.is in
+    let lowest = sym (seedless-first c.requires.0) ∙ sym c.plan_groups.ensures.answer ∙ c.in-Some.is in
     let outcome = planning-seedless a.tags.now a.groups a.limit c.requires.0.passes lowest in
-    record { answer = c.refuse.ensures.answer ∙ sym outcome; plan = c.requires.1 ∙ sym (plan-refused a.tags.now a.groups a.limit outcome) }
+    record {
+      answer = ap refusal_of c.at.ensures.answer ∙ sym outcome;
+      plan = c.requires.1 ∙ sym (plan-refused a.tags.now a.groups a.limit outcome);
+    }
 
 -- Where every group has a seed.
 module _ {tags : List ℕ} {groups limit : ℕ} {ordered ends seeds : List ℕ} (o : Orderly tags groups limit ordered ends)
@@ -46,7 +49,7 @@ returns c =
     let a = c.args in
     let found = rw c.in_default.is at c.plan_groups.ensures.seeds in
     let every = sym (seedless-first c.requires.0) ∙ sym c.plan_groups.ensures.answer
-    ∙ ap first_meaning c.in_default.is in
+    ∙ c.in_default.is in
     let outcome = planning-answered a.tags.now a.groups a.limit c.requires.0.passes every in
     record {
       answer = sym outcome;

@@ -2,7 +2,7 @@
 -- to be printed, and a refusal, which leaves the output as it was, is written as one line. Assumes nothing.
 use mathlib.Core.Path.{sym, ◌∙◌, ap}
 use native.Mathlib.Omega.{arith}
-use Rattle.building.specs.Answer.{build_outcome}
+use Rattle.refusal.specs.Answer.{outcome}
 use Rattle.refusal.proofs.PlaceLaws.{place-below}
 use Rattle.from_text.specs.PlaceLaws.{text_lines, from-text-place}
 use Rattle.image.proofs.SheetLaws.{longest-is}
@@ -18,22 +18,22 @@ returns-then-out-lt-LONGEST_IMAGE c =
 pub overflow_cast-place : goal.overflow_cast-place
 overflow_cast-place c =
     let a = c.args in
-    let refused = sym c.build_from_text.ensures.answer ∙ ap build_outcome c.in-Refused.is in
+    let refused = sym c.build_from_text.ensures.answer ∙ ap outcome c.in-Err.is in
     omega (arith, place-below text_lines (from-text-place a.text.now _) refused)
 
-pub returns-in-Built : goal.returns-in-Built
-returns-in-Built c =
+pub returns-in-Ok : goal.returns-in-Ok
+returns-in-Ok c =
     let a = c.args in
     let promised = c.build_from_text.ensures in
     let both = printed-built a.text.now a.out.now (omega (arith, longest-is, c.if-out-lt-LONGEST_IMAGE.false))
-    (sym promised.answer ∙ ap build_outcome c.in-Built.is) promised.bytes in
+    (sym promised.answer ∙ ap outcome c.in-Ok.is) promised.bytes in
     record { answer = both.0; bytes = both.1 }
 
-pub returns-in-Refused : goal.returns-in-Refused
-returns-in-Refused c =
+pub returns-in-Err : goal.returns-in-Err
+returns-in-Err c =
     let a = c.args in
     let promised = c.build_from_text.ensures in
     let both = printed-refused a.text.now a.out.now (omega (arith, longest-is, c.if-out-lt-LONGEST_IMAGE.false))
-    (sym promised.answer ∙ ap build_outcome c.in-Refused.is) promised.bytes
-    (rw c.reason_number-number.ensures.answer at c.write_pair_line.ensures.bytes) in
+    (sym promised.answer ∙ ap outcome c.in-Err.is) promised.bytes
+    (rw c.from-number.ensures at c.write_pair_line.ensures.bytes) in
     record { answer = both.0; bytes = both.1 }

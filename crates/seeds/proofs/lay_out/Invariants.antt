@@ -1,5 +1,5 @@
 -- What the loops of `seeds::lay_out` keep true. Assumes nothing.
-use Prim.Native.Nat.{◌-◌, ◌≤◌}
+use Prim.Native.Nat.{◌≤◌}
 use mathlib.Core.Path.{◌≡◌}
 use mathlib.Core.Bool.{true, false}
 use lib.ListN.{length, take}
@@ -13,6 +13,3 @@ invariant-loop-i l =
     (l.i ≤ length l.tags)
     × (l.first ≡ occupancy (places_by false (take l.i (group_under l.tags l.seed))))
     × (l.second ≡ occupancy (places_by true (take l.i (group_under l.tags l.seed))))
-
-abbrev pub decreases-loop-i : goal.decreases-loop-i
-decreases-loop-i l = length l.tags - l.i

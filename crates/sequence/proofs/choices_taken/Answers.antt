@@ -1,6 +1,7 @@
 -- `sequence::choices_taken` meets its contract: the word is that of the sequence taken for the first k keys, and the cells hold its
 -- occupants. Assumes nothing.
-use mathlib.Core.Path.{◌≡◌}
+use Rattle.std.specs.Prelude.{◌≡◌}
+use Rattle.std.proofs.Common.{◌∙◌}
 use native.Mathlib.Omega.{arith}
 use Rattle.lists.specs.UpTo.{up_to}
 use Rattle.filling.proofs.TakenLaws.{sequence-empty}
@@ -22,19 +23,18 @@ with_key-requires c =
     let pre = c.requires in
     record { k_lt_group_max = (omega arith, candidates-fewer _ (omega arith) pre.1, inv.1); occupants_value = inv.2 }
 
-pub returns-in_default : goal.returns-in_default
-returns-in_default c =
-    let nothing = rw c.in_default.is at c.with_key.ensures.answer in
+pub returns-in_err-word : goal.returns-in_err-word
+returns-in_err-word c =
     let a = c.args in
-    record { answer = cc (nothing-more a.places.now _ a.count (omega arith) nothing) }
+    record {
+      answer = c.from_residual.ensures ∙ nothing-more a.places.now _ a.count (omega arith) c.in_err-word.ensures.answer;
+    }
 
 pub loop-k-preserved : goal.loop-k-preserved
 unfolding occupants_after
 loop-k-preserved c =
-    let next = rw c.in-Word.is at c.with_key.ensures.answer in
-    let cells = rw c.in-Word.is at c.with_key.ensures.cells in
     let lt = c.loop-k-test.true in
-    (omega arith, next, cells)
+    (omega arith, c.in_ok-word.ensures.answer, c.in_ok-word.ensures.cells)
 
 pub returns : goal.returns
 returns c =

@@ -7,7 +7,7 @@ use native.Mathlib.Omega.{arith}
 use lib.ListN.{get_or}
 use Rattle.hash.specs.Formula.{place_of}
 use mathlib.Core.List.{List}
-use mathlib.Core.Option.{none}
+use Rattle.std.specs.Prelude.{None}
 use Rattle.refusal.specs.Limits.{tags_max}
 use Rattle.lists.specs.First.{first}
 use Rattle.image.specs.Checking.{misplaced}
@@ -28,7 +28,7 @@ below {starts} {seeds} {groups} {g} {j} t inside choice is = rw is (own_below st
 
 -- Slot j of group g, with what the two places of its tag answer.
 examined : {starts seeds tags : List ℕ} {groups g j : ℕ} → Regular starts seeds groups → InGroup starts seeds groups g j
-    → first (misplaced (cells_view starts seeds tags groups)) j ≡ none
+    → first (misplaced (cells_view starts seeds tags groups)) j ≡ None
     → {p q : ℕ} → p ≡ place_of (get_or starts (g + 1) 0 - get_or starts g 0) (get_or seeds g 0) 0 (get_or tags j 0)
     → q ≡ place_of (get_or starts (g + 1) 0 - get_or starts g 0) (get_or seeds g 0) 1 (get_or tags j 0)
     → Examined starts seeds tags groups g j (get_or starts g 0 + p) (get_or starts g 0 + q)

@@ -1,10 +1,11 @@
 -- `slots::slot_fault` meets its contract: no slot before the one that the walk has come to is misplaced, and a group ends where the
 -- next one starts. Assumes nothing.
-use mathlib.Core.Path.{◌≡◌, refl, sym, ◌∙◌}
+use mathlib.Core.Path.{◌≡◌, refl, sym, ◌∙◌, ap}
 use mathlib.Core.List.{List}
 use Prim.Native.Nat.{ℕ, ◌+◌, ◌<◌}
 use native.Mathlib.Omega.{arith}
 use lib.ListN.{get_or}
+use Rattle.std.specs.Prelude.{Option, Some}
 use Rattle.slots.specs.declared.SlotFault.{SlotFault}
 use Rattle.slots.specs.Cells.{cells_view}
 use Rattle.slots.specs.CellsLaws.{group-ends}
@@ -14,11 +15,11 @@ use Rattle.slots.specs.SlotLaws.{in_group}
 use Rattle.slots.specs.Cells.{Regular}
 use Rattle.slots.proofs.slot_fault.Invariants.{At}
 use Rattle.slots.proofs.slot_fault.Goals as goal
-use Rattle.slots.proofs.slot_fault.Goals.{else-loop-j-test, then-loop-j-test+in-Repeated}
+use Rattle.slots.proofs.slot_fault.Goals.{else-loop-j-test, then-loop-j-test+in-Some-Repeated}
 
 module _ (starts seeds tags : List ℕ) (groups : ℕ) (regular : Regular starts seeds groups) where
   -- One slot more of the group.
-  next : {before : SlotFault} {g j : ℕ} → At starts seeds tags groups before g j → (fault : SlotFault) → g < groups
+  next : {before : Option SlotFault} {g j : ℕ} → At starts seeds tags groups before g j → (fault : Option SlotFault) → g < groups
       → j < get_or starts (g + 1) 0 → Walked (cells_view starts seeds tags groups) fault (j + 1) → At starts seeds tags groups fault g
       (j + 1)
   next {g = g} at fault group below walked =
@@ -62,15 +63,16 @@ fault_at-requires c =
       j_value = at.walked.placed;
     }
 
-pub returns-in-Misplaced : goal.returns-in-Misplaced
-returns-in-Misplaced c =
+pub returns-in-Some-Misplaced : goal.returns-in-Some-Misplaced
+returns-in-Some-Misplaced c =
     let a = c.args in
     let view = cells_view a.starts.now a.seeds.now a.tags.now a.groups in
     let ends = group-ends c.args.starts.now c.args.seeds.now c.args.groups c.requires c.loop-g.g c.loop-g-test.true in
     let all = get_or a.starts.now a.groups 0 in
     record {
       answer = walk-found view c.loop-j.j c.loop-g.fault c.loop-j.invariant.1.walked all
-          (omega (arith, ends, c.loop-j-test.true)) (sym c.fault_at.ensures.answer ∙ c.in-Misplaced.is);
+          (omega (arith, ends, c.loop-j-test.true))
+          (sym c.fault_at.ensures.answer ∙ c.in-Some-Misplaced.is ∙ ap Some c.in-Some-Misplaced.field-0-is);
     }
 
 pub overflow_add-j : goal.overflow_add-j
@@ -83,7 +85,7 @@ loop-j-preserved c =
     let a = c.args in
     let view = cells_view a.starts.now a.seeds.now a.tags.now a.groups in
     let fault = c.loop-g.fault in
-    let sound = sym c.fault_at.ensures.answer ∙ c.in-Nowhere.is in
+    let sound = sym c.fault_at.ensures.answer ∙ c.in-None.is in
     let walked = walk-on view c.loop-j.j fault c.loop-j.invariant.1.walked sound in (
       omega (arith, c.loop-j.invariant.0),
       next a.starts.now a.seeds.now a.tags.now a.groups c.requires c.loop-j.invariant.1 fault c.loop-g-test.true c.loop-j-test.true walked,
@@ -108,8 +110,9 @@ loop-g-preserved-then-j-end c =
     let repeated : Walked view (or_repeated fault c.loop-j.j) (c.loop-j.j + 1) =
     elim c.loop-j-test.branch [
       | else-loop-j-test w ↦ absurd (omega (arith, w.loop-j-test.false, below))
-      | then-loop-j-test+in-Repeated w ↦
-          walk-repeated view c.loop-j.j fault c.loop-j.invariant.1.walked (sym w.fault_at.ensures.answer ∙ w.in-Repeated.is)
+      | then-loop-j-test+in-Some-Repeated w ↦
+          walk-repeated view c.loop-j.j fault c.loop-j.invariant.1.walked
+          (sym w.fault_at.ensures.answer ∙ w.in-Some-Repeated.is ∙ ap Some w.in-Some-Repeated.field-0-is)
     ] in
     rw c.or_repeated-fault.ensures.answer
     (next a.starts.now a.seeds.now a.tags.now a.groups c.requires c.loop-j.invariant.1

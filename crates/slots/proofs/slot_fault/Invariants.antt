@@ -2,13 +2,14 @@
 use mathlib.Core.List.{List}
 use Prim.Native.Nat.{ℕ, ◌+◌, ◌-◌, ◌≤◌, ◌<◌}
 use lib.ListN.{get_or}
+use Rattle.std.specs.Prelude.{Option}
 use Rattle.slots.specs.declared.SlotFault.{SlotFault}
 use Rattle.slots.specs.Cells.{cells_view}
 use Rattle.slots.specs.FaultLaws.{Walked}
 use Rattle.slots.proofs.slot_fault.Given as goal
 
 -- The walk has come to slot j, of group g.
-pub record At (starts seeds tags : List ℕ) (groups : ℕ) (fault : SlotFault) (g j : ℕ) : Type 0 where
+pub record At (starts seeds tags : List ℕ) (groups : ℕ) (fault : Option SlotFault) (g j : ℕ) : Type 0 where
   pub within : g ≤ groups
   pub above : get_or starts g 0 ≤ j
   pub upto : g < groups → j ≤ get_or starts (g + 1) 0

@@ -12,15 +12,15 @@ use Rattle.tag_index.proofs.tag_index_check.Goals as goal
 pub refusal_answer-requires : goal.refusal_answer-requires
 refusal_answer-requires c =
     let a = c.args in
-    let refused = sym c.check_image.ensures.answer ∙ ap check_outcome c.in-Refused.is in
+    let refused = sym c.check_image.ensures.answer ∙ ap check_outcome c.in-Err.is in
     omega (arith, place-below image_lines (checking-place a.image.now) refused)
 
-pub returns-in-Accepted : goal.returns-in-Accepted
+pub returns-in-Ok : goal.returns-in-Ok
 unfolding check_answer answer64
-returns-in-Accepted c = record { answer = ap answer64 (sym (ap check_outcome c.in-Accepted.is) ∙ c.check_image.ensures.answer) }
+returns-in-Ok c = record { answer = ap answer64 (sym (ap check_outcome c.in-Ok.is) ∙ c.check_image.ensures.answer) }
 
-pub returns-in-Refused : goal.returns-in-Refused
+pub returns-in-Err : goal.returns-in-Err
 unfolding check_answer
-returns-in-Refused c =
-    let is = sym (ap check_outcome c.in-Refused.is) ∙ c.check_image.ensures.answer in
+returns-in-Err c =
+    let is = sym (ap check_outcome c.in-Err.is) ∙ c.check_image.ensures.answer in
     record { answer = c.refusal_answer.ensures.answer ∙ ap answer64 is }

@@ -4,9 +4,9 @@ use mathlib.Core.Path.{◌≡◌, refl, sym, ◌∙◌, ap, ap₂, subst⁻¹}
 use mathlib.Core.List.{List, ◌++◌}
 use Prim.Native.Nat.{ℕ}
 use lib.ListN.{length, drop, replicate}
+use Rattle.refusal.specs.Reason.{refusal_of}
 use Rattle.refusal.specs.Limits.{groups_max}
 use Rattle.refusal.specs.Outcome.{answered}
-use Rattle.refusal.specs.Answer.{first_meaning}
 use Rattle.tagless_image.specs.Sheet.{tagless_bytes, tagless_length}
 use Rattle.tagless.specs.Building.{tagless_building_checks}
 use Rattle.tagless.proofs.BuildingLaws.{building-refused, after-refused, after-answered}
@@ -35,14 +35,14 @@ word_groups-requires c = record {
   seeds_len = (refl, refl);
 }
 
-pub returns-in-At : goal.returns-in-At
+pub returns-in-Some : goal.returns-in-Some
 unfolding tagless_building_checks
-returns-in-At c =
+returns-in-Some c =
     let a = c.args in
-    let lowest = sym (wordless-first c.requires) ∙ sym c.word_groups.ensures.answer ∙ ap first_meaning c.in-At.is in
+    let lowest = sym (wordless-first c.requires) ∙ sym c.word_groups.ensures.answer ∙ c.in-Some.is in
     let outcome = building-refused a.tags.now a.groups a.limit (length a.buffer.now) 7 c.requires.passes lowest in
     record {
-      answer = c.refuse.ensures.answer ∙ sym outcome;
+      answer = ap refusal_of c.at.ensures.answer ∙ sym outcome;
       bytes = sym (after-refused a.tags.now a.groups a.limit a.buffer.now outcome);
     }
 
@@ -70,7 +70,7 @@ returns c =
     let a = c.args in
     let seeds-are = rw c.in_default.is at c.word_groups.ensures.seeds in
     let words_are = rw c.in_default.is at c.word_groups.ensures.words in
-    let every = sym (wordless-first c.requires) ∙ sym c.word_groups.ensures.answer ∙ ap first_meaning c.in_default.is in
+    let every = sym (wordless-first c.requires) ∙ sym c.word_groups.ensures.answer ∙ c.in_default.is in
     let outcome = size-answered c.requires every in
     let stated =
     ap₂ (λ (l m : List ℕ). tagless_bytes (stated_sheet a.ends.now l m a.groups (length a.tags.now))

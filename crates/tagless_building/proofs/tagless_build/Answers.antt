@@ -4,20 +4,18 @@ use mathlib.Core.Path.{◌≡◌, refl, sym, ◌∙◌, ap}
 use mathlib.Core.List.{List}
 use mathlib.Core.Bool.{Bool, false}
 use Prim.Native.Nat.{◌≤◌}
-use Rattle.refusal.specs.declared.First.{First}
-use Rattle.refusal.specs.declared.First.TheVariants.{Nowhere}
+use Rattle.refusal.specs.Reason.{refusal_of}
+use Rattle.std.specs.Prelude.{Option, Some, None}
 use Rattle.refusal.specs.Limits.{limit_max, tags_max, outside}
 use Rattle.group.specs.Ascending.{ascending_check}
 use Rattle.group.specs.Unwired.{starts_unwired}
 use Rattle.tagless_image.specs.Sheet.{tagless_length}
-use mathlib.Core.Option.{some}
 use Prim.Native.Nat.{ℕ}
 use lib.ListN.{length}
 use borrow.Author.Tests.{lt-ltb, le-ltb}
 use Rattle.refusal.specs.Limits.{groups_max}
 use Rattle.refusal.proofs.LimitsLaws.{inside}
 use Rattle.refusal.specs.Outcome.{Outcome, refused}
-use Rattle.refusal.specs.Answer.{first_meaning}
 use Rattle.refusal.specs.Checks.{Check, Pass}
 use Rattle.refusal.specs.ChecksBefore.{checks_before}
 use Rattle.refusal.proofs.ChecksLaws.{met-true, met-false, met_by, passed_on}
@@ -33,7 +31,7 @@ module _ (tags : List ℕ) (groups limit : ℕ) (before : List ℕ) where
 
   -- A check that is met where those before it pass is the refusal.
   due : (number : ℕ) {place : ℕ} {outcome : Outcome ℕ} → outcome ≡ refused number place → Pass (checks_before number checks)
-      → met_by checks number ≡ some place → Promised tags groups limit before outcome before
+      → met_by checks number ≡ Some place → Promised tags groups limit before outcome before
   due number is passes met =
       promised-refusal tags groups limit before is (building-refused tags groups limit (length before) number passes met)
 
@@ -50,10 +48,10 @@ module _ (tags : List ℕ) (groups limit : ℕ) (before : List ℕ) where
   unfolding tagless_building_checks
   passed-5 passes few = passed_on checks 5 6 refl passes (met-false (le-ltb _ _ few))
 
-  passed-6 : {r : First} → Pass (checks_before 6 checks) → first_meaning r ≡ (ascending_check tags).1 → r ≡ Nowhere
+  passed-6 : {r : Option ℕ} → Pass (checks_before 6 checks) → r ≡ (ascending_check tags).1 → r ≡ None
       → Pass (checks_before 17 checks)
   unfolding tagless_building_checks
-  passed-6 passes told e = passed_on checks 6 17 refl passes (sym told ∙ ap first_meaning e)
+  passed-6 passes told e = passed_on checks 6 17 refl passes (sym told ∙ e)
 
   passed-17 : {r : Bool} → Pass (checks_before 17 checks) → r ≡ starts_unwired tags → r ≡ false → Pass (checks_before 9 checks)
   unfolding tagless_building_checks
@@ -67,7 +65,7 @@ pub returns-then-outside : goal.returns-then-outside
 unfolding tagless_building_checks
 returns-then-outside c =
     let a = c.args in
-    let p = due a.tags.now a.groups a.limit a.buffer.now 8 c.refuse.ensures.answer tt
+    let p = due a.tags.now a.groups a.limit a.buffer.now 8 (ap refusal_of c.into.ensures) tt
     (met-true (sym c.outside.ensures.answer ∙ c.if-outside.true)) in
     record { answer = p.0; bytes = p.1.0; condition = p.1.1 }
 
@@ -76,7 +74,7 @@ unfolding tagless_building_checks
 returns-then-outside-2 c =
     let a = c.args in
     let p8 = passed-8 a.tags.now a.groups a.limit a.buffer.now c.outside.ensures.answer c.if-outside.false in
-    let p = due a.tags.now a.groups a.limit a.buffer.now 4 c.refuse-then-outside-2.ensures.answer p8
+    let p = due a.tags.now a.groups a.limit a.buffer.now 4 (ap refusal_of c.into-then-outside-2.ensures) p8
     (met-true (sym c.outside-2.ensures.answer ∙ c.if-outside-2.true)) in
     record { answer = p.0; bytes = p.1.0; condition = p.1.1 }
 
@@ -86,19 +84,19 @@ returns-then-tags-gt-TAGS_MAX c =
     let a = c.args in
     let p8 = passed-8 a.tags.now a.groups a.limit a.buffer.now c.outside.ensures.answer c.if-outside.false in
     let p4 = passed-4 a.tags.now a.groups a.limit a.buffer.now p8 c.outside-2.ensures.answer c.if-outside-2.false in
-    let p = due a.tags.now a.groups a.limit a.buffer.now 5 c.refuse-then-tags-gt-TAGS_MAX.ensures.answer p4
+    let p = due a.tags.now a.groups a.limit a.buffer.now 5 (ap refusal_of c.into-then-tags-gt-TAGS_MAX.ensures) p4
     (met-true (lt-ltb _ _ c.if-tags-gt-TAGS_MAX.true)) in
     record { answer = p.0; bytes = p.1.0; condition = p.1.1 }
 
-pub returns-in-At : goal.returns-in-At
+pub returns-in-Some : goal.returns-in-Some
 unfolding tagless_building_checks
-returns-in-At c =
+returns-in-Some c =
     let a = c.args in
     let p8 = passed-8 a.tags.now a.groups a.limit a.buffer.now c.outside.ensures.answer c.if-outside.false in
     let p4 = passed-4 a.tags.now a.groups a.limit a.buffer.now p8 c.outside-2.ensures.answer c.if-outside-2.false in
     let p5 = passed-5 a.tags.now a.groups a.limit a.buffer.now p4 c.if-tags-gt-TAGS_MAX.false in
-    let p = due a.tags.now a.groups a.limit a.buffer.now 6 c.refuse-in-At.ensures.answer p5
-    (sym c.first_not_above.ensures.answer ∙ ap first_meaning c.in-At.is) in
+    let p = due a.tags.now a.groups a.limit a.buffer.now 6 (ap refusal_of c.at.ensures.answer) p5
+    (sym c.first_not_above.ensures.answer ∙ c.in-Some.is) in
     record { answer = p.0; bytes = p.1.0; condition = p.1.1 }
 
 pub returns-then-starts_unwired : goal.returns-then-starts_unwired
@@ -109,7 +107,7 @@ returns-then-starts_unwired c =
     let p4 = passed-4 a.tags.now a.groups a.limit a.buffer.now p8 c.outside-2.ensures.answer c.if-outside-2.false in
     let p5 = passed-5 a.tags.now a.groups a.limit a.buffer.now p4 c.if-tags-gt-TAGS_MAX.false in
     let p6 = passed-6 a.tags.now a.groups a.limit a.buffer.now p5 c.first_not_above.ensures.answer c.in_default.is in
-    let p = due a.tags.now a.groups a.limit a.buffer.now 17 c.refuse-then-starts_unwired.ensures.answer p6
+    let p = due a.tags.now a.groups a.limit a.buffer.now 17 (ap refusal_of c.into-then-starts_unwired.ensures) p6
     (met-true (sym c.starts_unwired.ensures.answer ∙ c.if-starts_unwired.true)) in
     record { answer = p.0; bytes = p.1.0; condition = p.1.1 }
 
@@ -125,7 +123,7 @@ returns-then-buffer-image_length c =
     let p5 = passed-5 a.tags.now a.groups a.limit a.buffer.now p4 c.if-tags-gt-TAGS_MAX.false in
     let p6 = passed-6 a.tags.now a.groups a.limit a.buffer.now p5 c.first_not_above.ensures.answer c.in_default.is in
     let p17 = passed-17 a.tags.now a.groups a.limit a.buffer.now p6 c.starts_unwired.ensures.answer c.if-starts_unwired.false in
-    let p = due a.tags.now a.groups a.limit a.buffer.now 9 c.refuse-then-buffer-image_length.ensures.answer p17
+    let p = due a.tags.now a.groups a.limit a.buffer.now 9 (ap refusal_of c.into-then-buffer-image_length.ensures) p17
     (met-true (lt-ltb _ _ (rw c.image_length.ensures.answer at c.if-buffer-image_length.true))) in
     record { answer = p.0; bytes = p.1.0; condition = p.1.1 }
 

@@ -3,8 +3,8 @@ use mathlib.Core.Path.{◌≡◌, refl, sym, ◌∙◌, ap}
 use mathlib.Core.List.{List}
 use Prim.Native.Nat.{ℕ, ◌+◌}
 use Rattle.lists.specs.First.{first}
-use Rattle.refusal.specs.declared.First.{First}
-use Rattle.refusal.specs.Answer.{first_meaning}
+use Rattle.std.specs.Prelude.{Option}
+use Rattle.refusal.specs.Reason.{refusal_of}
 use Rattle.image.specs.Checking.{malformed_in}
 use Rattle.tagless_image.specs.View.{tagless_view}
 use Rattle.tagless_opening.specs.OpeningLaws.{opening-answered}
@@ -12,29 +12,29 @@ use Rattle.tagless_checking.specs.StepsLaws.{check-line, check-faulty, check-acc
 use Rattle.tagless_checking.proofs.check_opened.Goals as goal
 
 -- What reading the lines found.
-lines : {answer told : First} (image : List ℕ) (groups : ℕ)
-    → first_meaning answer ≡ first (malformed_in (tagless_view image)) (1 + groups) → answer ≡ told
-    → first (malformed_in (tagless_view image)) (1 + groups) ≡ first_meaning told
-lines image groups promised e = sym promised ∙ ap first_meaning e
+lines : {answer told : Option ℕ} (image : List ℕ) (groups : ℕ)
+    → answer ≡ first (malformed_in (tagless_view image)) (1 + groups) → answer ≡ told
+    → first (malformed_in (tagless_view image)) (1 + groups) ≡ told
+lines image groups promised e = sym promised ∙ e
 
 pub read_lines-requires : goal.read_lines-requires
 read_lines-requires c = record { tagless_opens = opening-answered c.args.image.now c.requires; starts_len = refl }
 
-pub returns-in-At : goal.returns-in-At
-returns-in-At c =
-    let found = lines c.args.image.now c.args.groups c.read_lines.ensures.answer c.in-At.is in
-    record { answer = c.refused.ensures.answer ∙ sym (check-line c.args.image.now c.requires found) }
+pub returns-in-Some : goal.returns-in-Some
+returns-in-Some c =
+    let found = lines c.args.image.now c.args.groups c.read_lines.ensures.answer c.in-Some.is in
+    record { answer = ap refusal_of c.at.ensures.answer ∙ sym (check-line c.args.image.now c.requires found) }
 
 pub faulty_group-requires : goal.faulty_group-requires
 faulty_group-requires c = (opening-answered c.args.image.now c.requires).groups-legal
 
-pub returns-in-At-faulty_group : goal.returns-in-At-faulty_group
-returns-in-At-faulty_group c =
+pub returns-in-Some-faulty_group : goal.returns-in-Some-faulty_group
+returns-in-Some-faulty_group c =
     let none_malformed = lines c.args.image.now c.args.groups c.read_lines.ensures.answer c.in_default.is in
     let stored = rw c.in_default.is at c.read_lines.ensures.cells in
-    let found = sym c.faulty_group.ensures.answer ∙ ap first_meaning c.in-At-faulty_group.is in
+    let found = sym c.faulty_group.ensures.answer ∙ c.in-Some-faulty_group.is in
     record {
-      answer = c.refused-in-At-faulty_group.ensures.answer
+      answer = ap refusal_of c.at-in-Some-faulty_group.ensures.answer
           ∙ sym (check-faulty c.args.image.now c.requires none_malformed stored found);
     }
 
@@ -42,5 +42,5 @@ pub returns : goal.returns
 returns c =
     let none_malformed = lines c.args.image.now c.args.groups c.read_lines.ensures.answer c.in_default.is in
     let stored = rw c.in_default.is at c.read_lines.ensures.cells in
-    let found = sym c.faulty_group.ensures.answer ∙ ap first_meaning c.in_default-faulty_group.is in
+    let found = sym c.faulty_group.ensures.answer ∙ c.in_default-faulty_group.is in
     record { answer = sym (check-accepted c.args.image.now c.requires none_malformed stored found) }

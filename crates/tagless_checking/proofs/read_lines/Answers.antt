@@ -1,15 +1,13 @@
 -- `tagless_checking::read_lines` meets its contract: the lines before group g's are well formed, and their starts are stored.
 -- Assumes nothing.
-use mathlib.Core.Path.{◌≡◌, sym, ◌∙◌, ap}
+use mathlib.Core.Path.{◌≡◌, sym, ◌∙◌}
 use mathlib.Core.Bool.{not}
 use mathlib.Core.List.{List}
-use mathlib.Core.Option.{Option}
+use Rattle.std.specs.Prelude.{Option}
 use Prim.Native.Nat.{ℕ, suc, ◌+◌, ◌<◌}
 use native.Mathlib.Omega.{arith}
 use Rattle.lists.specs.First.{is_some}
 use Rattle.lists.proofs.SearchLaws.{searched-start, searched-turn, searched-found, searched-done}
-use Rattle.text.specs.Answer.{pair_meaning}
-use Rattle.text.specs.declared.Pair.{Pair}
 use Rattle.image.specs.Checking.{malformed_in}
 use Rattle.tagless_image.specs.View.{tagless_view}
 use Rattle.tagless_opening.specs.Opening.{TaglessOpens}
@@ -18,9 +16,9 @@ use Rattle.tagless_checking.proofs.read_lines.Goals as goal
 
 -- What the line of group g states, and whether it is malformed.
 module _ {image : List ℕ} {count groups : ℕ} (opens : TaglessOpens image count groups) (g : ℕ) (lt : g < groups) where
-  states : {answer told : Pair} → pair_meaning answer ≡ (tagless_view image).group_at (suc g) → answer ≡ told
-      → (tagless_view image).group_at (suc g) ≡ pair_meaning told
-  states promised e = sym promised ∙ ap pair_meaning e
+  states : {answer told : Option (ℕ × ℕ)} → answer ≡ (tagless_view image).group_at (suc g) → answer ≡ told
+      → (tagless_view image).group_at (suc g) ≡ told
+  states promised e = sym promised ∙ e
 
   tested : {o : Option (ℕ × ℕ)} → (tagless_view image).group_at (suc g) ≡ o → malformed_in (tagless_view image) (1 + g) ≡ not (is_some o)
   tested e = line-tested image opens g lt e
@@ -61,7 +59,7 @@ loop-g-preserved c =
     let loop = c.loop-g in
     let opens = c.requires.tagless_opens in
     let lower = c.loop-g-test.true in
-    let numbers = states opens loop.g lower c.read_start_and_seed.ensures.answer c.in-Numbers.is in
+    let numbers = states opens loop.g lower c.read_start_and_seed.ensures.answer c.in-Some.is in
     let next : 1 + (loop.g + 1) ≡ 1 + loop.g + 1 = omega arith in
     let test = malformed_in (tagless_view a.image.now) in
     record {

@@ -7,13 +7,12 @@ use Prim.Native.Nat.{ℕ, suc, ◌+◌, ◌-◌, ◌<◌}
 use native.Mathlib.Omega.{arith}
 use borrow.Author.Tests.{lt-ltb}
 use Rattle.refusal.specs.Outcome.{Outcome}
+use Rattle.refusal.specs.Reason.{refusal_of}
 use Rattle.hash.specs.Formula.{group_of}
 use Rattle.hash.proofs.FormulaLaws.{group-below, place-below}
-use Rattle.word_line.specs.Answer.{group_word_meaning}
 use Rattle.word_line.proofs.WordLineLaws.{word-only}
 use Rattle.image.specs.Lookup.{Found}
 use Rattle.image.proofs.FaultLaws.{fair-of-faulty}
-use Rattle.lookup.specs.Answer.{end_meaning}
 use Rattle.tagless_image.specs.View.{stated_at}
 use Rattle.tagless_lookup.specs.Steps.{group_outcome}
 use Rattle.tagless_lookup.proofs.StepsLaws.{own-malformed, next-malformed, group-faulty, group_empty, group-number}
@@ -44,10 +43,10 @@ pub returns-in_default : goal.returns-in_default
 returns-in_default c =
     let a = c.args in
     let g = c.group_of-g.result in
-    let malformed = sym c.read_group.ensures.answer ∙ ap group_word_meaning c.in_default.is in
+    let malformed = sym c.read_group.ensures.answer ∙ c.in_default.is in
     record {
       answer = answers a.image.now a.groups a.tag g c.group_of-g.ensures.answer
-          (c.malformed.ensures.answer ∙ rw (suc-is g) (sym (own-malformed a.image.now a.tag g malformed)));
+          (ap refusal_of c.at.ensures.answer ∙ rw (suc-is g) (sym (own-malformed a.image.now a.tag g malformed)));
     }
 
 pub group_end-requires : goal.group_end-requires
@@ -61,11 +60,11 @@ pub returns-in_default-group_end : goal.returns-in_default-group_end
 returns-in_default-group_end c =
     let a = c.args in
     let g = c.group_of-g.result in
-    let own = sym c.read_group.ensures.answer ∙ ap group_word_meaning c.in-Numbers.is in
-    let malformed = sym c.group_end.ensures.answer ∙ ap end_meaning c.in_default-group_end.is in
+    let own = sym c.read_group.ensures.answer ∙ c.in-Some.is in
+    let malformed = sym c.group_end.ensures.answer ∙ c.in_default-group_end.is in
     record {
       answer = answers a.image.now a.groups a.tag g c.group_of-g.ensures.answer
-          (c.malformed-in_default-group_end.ensures.answer
+          (ap refusal_of c.at-in_default-group_end.ensures.answer
           ∙ rw (suc-suc-is g) (sym (next-malformed a.image.now a.tag g own malformed)));
     }
 
@@ -73,23 +72,23 @@ pub returns-then-faulty : goal.returns-then-faulty
 returns-then-faulty c =
     let a = c.args in
     let g = c.group_of-g.result in
-    let own = sym c.read_group.ensures.answer ∙ ap group_word_meaning c.in-Numbers.is in
-    let ends = sym c.group_end.ensures.answer ∙ ap end_meaning c.in-At.is in
+    let own = sym c.read_group.ensures.answer ∙ c.in-Some.is in
+    let ends = sym c.group_end.ensures.answer ∙ c.in-Some-group_end.is in
     let fault = sym c.faulty.ensures.answer ∙ c.if-faulty.true in
     record {
       answer = answers a.image.now a.groups a.tag g c.group_of-g.ensures.answer
-          (c.faulty-then-faulty.ensures.answer ∙ sym (group-faulty a.image.now a.tag g own ends (rw fault)));
+          (ap refusal_of c.at-then-faulty.ensures.answer ∙ sym (group-faulty a.image.now a.tag g own ends (rw fault)));
     }
 
 pub returns-then-count-end : goal.returns-then-count-end
 returns-then-count-end c =
     let a = c.args in
     let g = c.group_of-g.result in
-    let own = sym c.read_group.ensures.answer ∙ ap group_word_meaning c.in-Numbers.is in
-    let ends = sym c.group_end.ensures.answer ∙ ap end_meaning c.in-At.is in
+    let own = sym c.read_group.ensures.answer ∙ c.in-Some.is in
+    let ends = sym c.group_end.ensures.answer ∙ c.in-Some-group_end.is in
     record {
       answer = answers a.image.now a.groups a.tag g c.group_of-g.ensures.answer
-          (c.faulty-then-count-end.ensures.answer
+          (ap refusal_of c.at-then-count-end.ensures.answer
           ∙ sym (group-faulty a.image.now a.tag g own ends (rw (c.requires.count-is, lt-ltb _ _ c.if-count-end.true, or-true))));
     }
 
@@ -98,8 +97,8 @@ pub returns-then-start-end : goal.returns-then-start-end
 returns-then-start-end c =
     let a = c.args in
     let g = c.group_of-g.result in
-    let own = sym c.read_group.ensures.answer ∙ ap group_word_meaning c.in-Numbers.is in
-    let ends = sym c.group_end.ensures.answer ∙ ap end_meaning c.in-At.is in
+    let own = sym c.read_group.ensures.answer ∙ c.in-Some.is in
+    let ends = sym c.group_end.ensures.answer ∙ c.in-Some-group_end.is in
     let fair = sym c.faulty.ensures.answer ∙ c.if-faulty.false in
     record {
       answer = answers a.image.now a.groups a.tag g c.group_of-g.ensures.answer
@@ -113,12 +112,12 @@ overflow_sub-end c =
 
 pub place_by-requires : goal.place_by-requires
 unfolding stated_at
-place_by-requires c = (word-only _ _ _ _ (sym c.read_group.ensures.answer ∙ ap group_word_meaning c.in-Numbers.is)).2
+place_by-requires c = (word-only _ _ _ _ (sym c.read_group.ensures.answer ∙ c.in-Some.is)).2
 
 pub overflow_add-result : goal.overflow_add-result
 overflow_add-result c =
     let up = (fair-of-faulty _ _ _ (sym c.faulty.ensures.answer ∙ c.if-faulty.false)).ascends in
-    let small : c.place_by.result < c.in-At.end - c.in-Numbers.start =
+    let small : c.place_by.result < c.in-Some-group_end.end - c.in-Some.start =
     rw c.place_by.ensures.answer (place-below _ _ _ _ (omega (arith, c.if-start-end.false))) in
     omega (arith, c.if-count-end.false)
 
@@ -126,8 +125,8 @@ pub returns : goal.returns
 returns c =
     let a = c.args in
     let g = c.group_of-g.result in
-    let own = sym c.read_group.ensures.answer ∙ ap group_word_meaning c.in-Numbers.is in
-    let ends = sym c.group_end.ensures.answer ∙ ap end_meaning c.in-At.is in
+    let own = sym c.read_group.ensures.answer ∙ c.in-Some.is in
+    let ends = sym c.group_end.ensures.answer ∙ c.in-Some-group_end.is in
     let fair = sym c.faulty.ensures.answer ∙ c.if-faulty.false in
     record {
       answer = answers a.image.now a.groups a.tag g c.group_of-g.ensures.answer

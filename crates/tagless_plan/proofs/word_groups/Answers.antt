@@ -1,10 +1,9 @@
 -- `tagless_plan::word_groups` meets its contract: each group that the loop has passed has its least seed and word. Assumes nothing.
-use mathlib.Core.Path.{sym, ◌∙◌, ap}
+use mathlib.Core.Path.{sym, ◌∙◌}
 use Prim.Native.Nat.{◌≤◌}
 use native.Mathlib.Omega.{arith}
 use lib.ListN.{length, get_or}
 use Rattle.numbering.proofs.PartsLaws.{part-bounds}
-use Rattle.tagless_seeds.specs.Answer.{worded_meaning}
 use Rattle.tagless_plan.proofs.Search.{found-start, found_turn, found-without, part-few, found-done}
 use Rattle.tagless_plan.proofs.word_groups.Goals as goal
 use Rattle.tagless_plan.proofs.word_groups.Goals.{In-loop-g}
@@ -36,7 +35,7 @@ least_worded_seed-requires c =
 pub returns-in_default : goal.returns-in_default
 returns-in_default c =
     let inv = c.loop-g.invariant in
-    let nothing = sym c.least_worded_seed.ensures.answer ∙ ap worded_meaning c.in_default.is in
+    let nothing = sym c.least_worded_seed.ensures.answer ∙ c.in_default.is in
     record {
       answer = sym (found-without c.requires.searchable.0 inv c.loop-g-test.true nothing);
       seeds = inv.seeds-are;
@@ -45,7 +44,7 @@ returns-in_default c =
 
 pub loop-g-preserved : goal.loop-g-preserved
 loop-g-preserved c =
-    let some_word = sym c.least_worded_seed.ensures.answer ∙ ap worded_meaning c.in-At.is in
+    let some_word = sym c.least_worded_seed.ensures.answer ∙ c.in-Some.is in
     found_turn c.requires.searchable.0 c.loop-g.invariant c.loop-g-test.true some_word
     (omega (arith, c.requires.searchable.1, c.requires.seeds_len.0, c.loop-g-test.true))
     (omega (arith, c.requires.searchable.1, c.requires.seeds_len.1, c.loop-g-test.true))

@@ -1,7 +1,7 @@
 -- `tagless_seeds::least_worded_seed` meets its contract: no seed passed over has a word, neither one that the ones of the occupancy word
 -- drop nor one that the equations decide. Assumes nothing.
 use Prim.Native.Nat.{ℕ, ◌+◌, ◌*◌, ◌≤◌, ◌<◌}
-use mathlib.Core.Path.{◌≡◌, refl, sym, ◌∙◌}
+use mathlib.Core.Path.{◌≡◌, sym, ◌∙◌}
 use mathlib.Core.List.{List}
 use native.Mathlib.Omega.{arith}
 use lib.Count.{ones}
@@ -12,7 +12,7 @@ use Rattle.group.specs.Group.{group_under}
 use Rattle.group.proofs.GroupLaws.{group-size, group-below}
 use Rattle.candidates.specs.LaidLaws.{group-cells}
 use Rattle.places.specs.Array.{laid_into}
-use mathlib.Core.Option.{Option, some, none}
+use Rattle.std.specs.Prelude.{Option, Some, None}
 use Rattle.places.specs.Array.{keys_of}
 use Rattle.equations.specs.Equation.{least_of_rows}
 use Rattle.tagless_seeds.specs.Rows.{rows_into}
@@ -52,60 +52,52 @@ module _
       → answer ≡ least_word tags s
   decided n answer promised = (rw n at promised) ∙ least_word-arrays tags s before few size rowed cells room laid
 
-pub seeds-init : goal.seeds-init
-seeds-init c = record { upto = omega arith; nothing = λ t lt. absurd (omega arith); places-size = refl; rows-size = refl }
-
-pub returns-then-next-limit : goal.returns-then-next-limit
-returns-then-next-limit c =
-    let passed = c.seeds.invariant in
+pub returns : goal.returns
+returns c =
+    let passed = c.loop-seed.invariant in
     let a = c.args in
-    record { answer = sym (worded_seed-out a.tags.now a.limit (λ t lt. passed.nothing t (omega (arith, c.if-next-limit.true)))) }
+    record { answer = sym (worded_seed-out a.tags.now a.limit (λ t lt. passed.nothing t (omega (arith, c.loop-seed-test.false)))) }
 
-pub lay_out-occupied-requires : goal.lay_out-occupied-requires
-lay_out-occupied-requires c =
-    (c.requires.0, c.size_of-n.ensures.answer, omega (arith, c.if-next-limit.false, c.requires.1), c.seeds.invariant.places-size)
-
-pub seeds-preserved-then-occupied-n : goal.seeds-preserved-then-occupied-n
-seeds-preserved-then-occupied-n c =
+pub loop-seed-preserved-then-occupied-n : goal.loop-seed-preserved-then-occupied-n
+loop-seed-preserved-then-occupied-n c =
     let tags = c.args.tags.now in
-    let passed = c.seeds.invariant in
-    passed-more passed c.if-next-limit.false
-    (dropped tags c.seeds.next c.lay_out-occupied.ensures.answer (λ e. c.if-occupied-n.true (e ∙ sym c.size_of-n.ensures.answer)))
-    (group-cells tags c.seeds.next c.seeds.places c.requires.0 passed.places-size c.lay_out-occupied.ensures.cells)
+    let at = c.loop-seed in
+    let passed = at.invariant in
+    passed-more passed c.loop-seed-test.true
+    (dropped tags at.seed c.lay_out-occupied.ensures.answer (λ e. c.if-occupied-n.true (e ∙ sym c.size_of-n.ensures.answer)))
+    (group-cells tags at.seed at.places c.requires.0 passed.places-size c.lay_out-occupied.ensures.cells)
     passed.rows-size
-
-pub lay_rows-requires : goal.lay_rows-requires
-lay_rows-requires c = (c.requires.0, omega (arith, c.if-next-limit.false, c.requires.1), c.seeds.invariant.rows-size)
 
 pub least_word-requires : goal.least_word-requires
 least_word-requires c =
-    let passed = c.seeds.invariant in
-    stated c.args.tags.now c.seeds.next c.seeds.places c.seeds.rows c.requires.0 passed.places-size c.lay_out-occupied.ensures.cells
-    passed.rows-size
+    let at = c.loop-seed in
+    stated c.args.tags.now at.seed at.places at.rows c.requires.0 at.invariant.places-size c.lay_out-occupied.ensures.cells
+    at.invariant.rows-size
     c.lay_rows.ensures.cells c.size_of-n.ensures.answer
 
-pub returns-in-Least : goal.returns-in-Least
-returns-in-Least c =
+pub returns-in-Some : goal.returns-in-Some
+returns-in-Some c =
     let tags = c.args.tags.now in
-    let passed = c.seeds.invariant in
-    let found = decided tags c.seeds.next c.seeds.places c.seeds.rows c.requires.0 passed.places-size c.lay_out-occupied.ensures.cells
-    passed.rows-size
-    c.lay_rows.ensures.cells c.size_of-n.ensures.answer (some c.in-Least.word) c.in-Least.ensures.answer in
+    let at = c.loop-seed in
+    let found = decided tags at.seed at.places at.rows c.requires.0 at.invariant.places-size c.lay_out-occupied.ensures.cells
+    at.invariant.rows-size
+    c.lay_rows.ensures.cells c.size_of-n.ensures.answer (Some c.in-Some.word) c.in-Some.ensures.answer in
     record {
       answer = sym (worded_seed-only tags c.args.limit (record {
-        below = c.if-next-limit.false;
-        least = least_word-some tags c.seeds.next (sym found);
-        passed = passed.nothing;
+        below = c.loop-seed-test.true;
+        least = least_word-some tags at.seed (sym found);
+        passed = at.invariant.nothing;
       }));
     }
 
-pub seeds-preserved : goal.seeds-preserved
-seeds-preserved c =
+pub loop-seed-preserved : goal.loop-seed-preserved
+loop-seed-preserved c =
     let tags = c.args.tags.now in
-    let passed = c.seeds.invariant in
-    let nothing = decided tags c.seeds.next c.seeds.places c.seeds.rows c.requires.0 passed.places-size c.lay_out-occupied.ensures.cells
+    let at = c.loop-seed in
+    let passed = at.invariant in
+    let nothing = decided tags at.seed at.places at.rows c.requires.0 passed.places-size c.lay_out-occupied.ensures.cells
     passed.rows-size
-    c.lay_rows.ensures.cells c.size_of-n.ensures.answer none c.in-Nothing.ensures.answer in
-    passed-more passed c.if-next-limit.false (least_word-none tags c.seeds.next (sym nothing))
-    (group-cells tags c.seeds.next c.seeds.places c.requires.0 passed.places-size c.lay_out-occupied.ensures.cells)
-    (rows-cells tags c.seeds.next c.seeds.rows c.requires.0 passed.rows-size c.lay_rows.ensures.cells)
+    c.lay_rows.ensures.cells c.size_of-n.ensures.answer None c.in_default.ensures.answer in
+    passed-more passed c.loop-seed-test.true (least_word-none tags at.seed (sym nothing))
+    (group-cells tags at.seed at.places c.requires.0 passed.places-size c.lay_out-occupied.ensures.cells)
+    (rows-cells tags at.seed at.rows c.requires.0 passed.rows-size c.lay_rows.ensures.cells)

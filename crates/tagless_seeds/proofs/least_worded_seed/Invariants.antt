@@ -1,5 +1,5 @@
 -- What the loops of `tagless_seeds::least_worded_seed` keep true. Assumes nothing.
-use Prim.Native.Nat.{ℕ, ◌*◌, ◌-◌, ◌≤◌, ◌<◌}
+use Prim.Native.Nat.{ℕ, ◌*◌, ◌≤◌, ◌<◌}
 use mathlib.Core.Path.{◌≡◌}
 use mathlib.Core.List.{List}
 use lib.ListN.{length}
@@ -14,8 +14,5 @@ pub record Passed (tags : List ℕ) (limit : ℕ) (places rows : List ℕ) (next
   pub places-size : length places ≡ 2 * group_max
   pub rows-size : length rows ≡ group_max
 
-abbrev pub invariant-seeds : goal.invariant-seeds
-invariant-seeds l = Passed l.tags l.limit l.places l.rows l.next
-
-abbrev pub decreases-seeds : goal.decreases-seeds
-decreases-seeds l = l.limit - l.next
+abbrev pub invariant-loop-seed : goal.invariant-loop-seed
+invariant-loop-seed l = Passed l.tags l.limit l.places l.rows l.seed

@@ -1,19 +1,13 @@
--- `text::part` meets its contract: past the end nothing is left, near the end what is left is taken,
--- and else the part lies within the bytes. Assumes nothing.
-use Rattle.text.proofs.PartLaws.{part-past, part-short, part-whole}
+-- `text::part` meets its contract: a text has a part where it has so many bytes behind the place. Assumes nothing.
+use Rattle.std.proofs.Common.{rules, arith}
+use Rattle.std.proofs.lemmas.Grind.{common_steps}
+use Rattle.text.specs.Part.{part}
 use Rattle.text.proofs.part.Goals as goal
 
-pub returns-then-bytes-at : goal.returns-then-bytes-at
-returns-then-bytes-at c =
-    let args = c.args in
-    record { answer = part-past args.bytes.now args.at args.width c.if-bytes-at.true }
-
-pub returns-then-bytes-at-2 : goal.returns-then-bytes-at-2
-returns-then-bytes-at-2 c =
-    let args = c.args in
-    record { answer = part-short args.bytes.now args.at args.width c.if-bytes-at-2.true }
+pub returns-in_err-get : goal.returns-in_err-get
+unfolding part
+returns-in_err-get c = search rules
 
 pub returns : goal.returns
-returns c =
-    let args = c.args in
-    record { answer = part-whole args.bytes.now args.at args.width }
+unfolding part
+returns c = grind (arith, common_steps)

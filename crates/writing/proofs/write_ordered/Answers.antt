@@ -2,13 +2,13 @@
 -- Assumes nothing.
 use mathlib.Core.Path.{◌≡◌, sym, ◌∙◌, ap}
 use mathlib.Core.List.{List, ◌++◌}
-use mathlib.Core.Option.{none}
+use Rattle.std.specs.Prelude.{None}
 use native.Mathlib.Omega.{arith}
 use Prim.Native.Nat.{ℕ}
 use lib.ListN.{length, drop, replicate}
+use Rattle.refusal.specs.Reason.{refusal_of}
 use Rattle.refusal.specs.Limits.{tags_max}
 use Rattle.refusal.specs.Outcome.{answered}
-use Rattle.refusal.specs.Answer.{first_meaning}
 use Rattle.lists.specs.First.{first}
 use Rattle.image.specs.Sheet.{bytes_of, image_length}
 use Rattle.numbering.specs.Plan.{planned_groups}
@@ -16,8 +16,7 @@ use Rattle.numbering.specs.Writing.{unfilled, writing_checks}
 use Rattle.numbering.proofs.WritingLaws.{writing-refused, writing-kept, writing-written}
 use Rattle.arrange.specs.Arrange.{slots_into, unfilled_part}
 use Rattle.writing.specs.Arrays.{Orderly}
-use Rattle.refusal.specs.declared.First.{First}
-use Rattle.refusal.specs.declared.First.TheVariants.{Nowhere}
+use Rattle.std.specs.Prelude.{Option, None}
 use Rattle.arrange.specs.SlotsLaws.{slots_kept}
 use Rattle.write.specs.Stated.{stated_sheet}
 use Rattle.writing.specs.ArraysLaws.{fit, groups-legal, seeds, arrangeable, unfilled-first, writable, written-bytes, size-answered}
@@ -28,9 +27,9 @@ zeros = replicate tags_max 0
 
 -- Where every group is filled, and the slots then.
 module _ {tags : List ℕ} {groups : ℕ} {plan ordered ends : List ℕ} {room : ℕ} (o : Orderly tags groups plan ordered ends room) where
-  every : {found : First} → first_meaning found ≡ first (unfilled_part ordered ends (seeds o)) groups → found ≡ Nowhere
-      → first (unfilled tags plan) (planned_groups plan) ≡ none
-  every answer is = sym (unfilled-first o) ∙ sym answer ∙ ap first_meaning is
+  every : {found : Option ℕ} → found ≡ first (unfilled_part ordered ends (seeds o)) groups → found ≡ None
+      → first (unfilled tags plan) (planned_groups plan) ≡ None
+  every answer is = sym (unfilled-first o) ∙ sym answer ∙ is
 
   slots-long : {slots : List ℕ} → slots ≡ slots_into ordered ends (seeds o) groups zeros → length slots ≡ tags_max
   slots-long are = ap length are ∙ slots_kept o.sorted.parts (seeds o) groups (omega arith) zeros o.few-cells
@@ -38,13 +37,16 @@ module _ {tags : List ℕ} {groups : ℕ} {plan ordered ends : List ℕ} {room :
 pub arrange-requires : goal.arrange-requires
 arrange-requires c = arrangeable c.requires
 
-pub returns-in-At : goal.returns-in-At
+pub returns-in-Some : goal.returns-in-Some
 unfolding writing_checks
-returns-in-At c =
+returns-in-Some c =
     let a = c.args in
-    let due = sym (unfilled-first c.requires) ∙ sym c.arrange.ensures.answer ∙ ap first_meaning c.in-At.is in
+    let due = sym (unfilled-first c.requires) ∙ sym c.arrange.ensures.answer ∙ c.in-Some.is in
     let outcome = writing-refused a.tags.now a.plan.now (length a.buffer.now) 18 c.requires.passes due in
-    record { answer = c.refuse.ensures.answer ∙ sym outcome; bytes = sym (writing-kept a.tags.now a.plan.now a.buffer.now outcome) }
+    record {
+      answer = ap refusal_of c.at.ensures.answer ∙ sym outcome;
+      bytes = sym (writing-kept a.tags.now a.plan.now a.buffer.now outcome);
+    }
 
 pub slice_bounds-write_lines-end : goal.slice_bounds-write_lines-end
 slice_bounds-write_lines-end c = sym (slots-long c.requires (rw c.in_default.is at c.arrange.ensures.cells))

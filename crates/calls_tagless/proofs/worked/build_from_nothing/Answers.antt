@@ -2,7 +2,6 @@
 -- Assumes nothing.
 use mathlib.Core.Path.{◌≡◌, refl, ◌∙◌}
 use mathlib.Core.List.{List, []}
-use mathlib.Core.Option.{or_else}
 use Prim.Native.Nat.{ℕ}
 use Rattle.refusal.specs.Outcome.{followed_by, on_answer}
 use Rattle.lists.specs.First.{met_at}
@@ -15,11 +14,11 @@ use Rattle.calls_tagless.specs.Tagless.{tagless_build_answer}
 use Rattle.calls_tagless.proofs.worked.build_from_nothing.Goals as goal
 
 nothing-refused : (room : ℕ) → tagless_build_answer [] room ≡ 68719476736
-unfolding tagless_build_answer answer64 tagless_from_text followed_by list_from_text in_order met met_at or_else reading_of reading_checks
+unfolding tagless_build_answer answer64 tagless_from_text followed_by list_from_text in_order met met_at reading_of reading_checks
 nothing-refused room = refl
 
 nothing_written : (before : List ℕ) → tagless_buffer_from_text [] before ≡ before
-unfolding tagless_buffer_from_text on_answer list_from_text in_order met met_at or_else reading_of reading_checks
+unfolding tagless_buffer_from_text on_answer list_from_text in_order met met_at reading_of reading_checks
 nothing_written before = refl
 
 pub returns : goal.returns

@@ -2,7 +2,6 @@
 -- computes to. Assumes nothing.
 use mathlib.Core.Path.{◌≡◌, refl, ◌∙◌}
 use mathlib.Core.List.{[], ◌∷◌}
-use mathlib.Core.Option.{or_else}
 use Prim.Native.Nat.{ℕ}
 use native.Mathlib.Omega.{arith}
 use Rattle.refusal.specs.Limits.{outside}
@@ -32,7 +31,7 @@ use Rattle.claim.specs.Claim.{found_in, claim_of}
 use Rattle.claim.proofs.worked.number_of_one.Goals as goal
 
 computed : claim_of (1 ∷ 2 ∷ []) 1 1 44 1 ≡ answered (number 1)
-unfolding or_else outside followed_by first met_at is_some met in_order product high_part hashed group_of multiplier
+unfolding outside followed_by first met_at is_some met in_order product high_part hashed group_of multiplier
     place_of occurs place_by beginning least_from least feasible
     ones fewer_ones taken_from sequence_taken choice_number both_places candidates least_seed taken
     not_above starts_unwired image_length select members start_of choice_of place_in number_of on_answer up_to

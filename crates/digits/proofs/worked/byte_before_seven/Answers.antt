@@ -2,7 +2,6 @@
 -- Assumes nothing.
 use mathlib.Core.Path.{◌≡◌, refl}
 use mathlib.Core.List.{[], ◌∷◌}
-use mathlib.Core.Option.{or_else}
 use Prim.Native.Nat.{◌-◌}
 use Rattle.lists.specs.First.{met_at, first}
 use Rattle.digits.specs.Digits.{digits_from}
@@ -10,7 +9,7 @@ use Rattle.digits.specs.Width.{fits, width_of}
 use Rattle.digits.proofs.worked.byte_before_seven.Goals as goal
 
 computed : digits_from (2 - width_of 7) 2 7 ≡ 32 ∷ 55 ∷ []
-unfolding digits_from width_of first met_at fits or_else
+unfolding digits_from width_of first met_at fits
 computed = refl
 
 pub returns : goal.returns

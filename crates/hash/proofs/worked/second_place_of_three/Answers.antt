@@ -13,12 +13,12 @@ computed : place_of_one_tag 2 1 1 3 ≡ answered 1
 unfolding place_of_one_tag one_tag_checks in_order met met_at outside place_of multiplier hashed high_part product
 computed = refl
 
-pub returns-in-Place : goal.returns-in-Place
-returns-in-Place c =
-    let promised = rw c.in-Place.is at c.place_of_one_tag.ensures.answer in
+pub returns-in-Ok : goal.returns-in-Ok
+returns-in-Ok c =
+    let promised = rw c.in-Ok.is at c.place_of_one_tag.ensures.answer in
     record { answer = cc computed }
 
-pub returns-in-Refused : goal.returns-in-Refused
-returns-in-Refused c =
-    let promised = rw c.in-Refused.is at c.place_of_one_tag.ensures.answer in
+pub returns-in-Err : goal.returns-in-Err
+returns-in-Err c =
+    let promised = rw c.in-Err.is at c.place_of_one_tag.ensures.answer in
     record { answer = cc computed }

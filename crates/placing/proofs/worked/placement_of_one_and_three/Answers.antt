@@ -2,7 +2,6 @@
 -- definition computes to. Assumes nothing.
 use mathlib.Core.Path.{◌≡◌, refl, ap}
 use mathlib.Core.List.{[], ◌∷◌}
-use mathlib.Core.Option.{or_else}
 use native.Mathlib.Omega.{arith}
 use Prim.Native.Nat.{ℕ}
 use Rattle.refusal.specs.Limits.{outside}
@@ -23,7 +22,7 @@ use Rattle.group.specs.Placing.{Placement, placing_checks, placement_of, placing
 use Rattle.placing.proofs.worked.placement_of_one_and_three.Goals as goal
 
 computed : placing_of (1 ∷ 3 ∷ []) 2 ≡ answered (record { seed = 1; word = 2 })
-unfolding or_else outside first met_at is_some met in_order product high_part hashed multiplier place_of occurs place_by
+unfolding outside first met_at is_some met in_order product high_part hashed multiplier place_of occurs place_by
     beginning least_from least feasible
     ones fewer_ones taken_from sequence_taken choice_number word_of both_places candidates least_seed taken not_above starts_unwired
     placing_checks placement_of placing_of
@@ -42,15 +41,15 @@ returns-in_default c =
 
 pub overflow_mul-result : goal.overflow_mul-result
 overflow_mul-result c =
-    let promised = rw c.in-Placed.is at c.place_group.ensures.answer in
+    let promised = rw c.in-Ok.is at c.place_group.ensures.answer in
     omega (arith, said promised)
 
 pub overflow_add-result : goal.overflow_add-result
 overflow_add-result c =
-    let promised = rw c.in-Placed.is at c.place_group.ensures.answer in
+    let promised = rw c.in-Ok.is at c.place_group.ensures.answer in
     omega (arith, said promised)
 
 pub returns : goal.returns
 returns c =
-    let promised = rw c.in-Placed.is at c.place_group.ensures.answer in
+    let promised = rw c.in-Ok.is at c.place_group.ensures.answer in
     record { answer = omega (arith, said promised) }

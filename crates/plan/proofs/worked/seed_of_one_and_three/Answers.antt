@@ -2,8 +2,7 @@
 -- definition computes to. Assumes nothing.
 use mathlib.Core.Path.{◌≡◌, refl, ◌∙◌, ap}
 use mathlib.Core.List.{List, [], ◌∷◌}
-use mathlib.Core.Option
-use mathlib.Core.Option.{Option, none, or_else}
+use Rattle.std.specs.Prelude.{Option, None, unwrap_or}
 use native.Mathlib.Omega.{arith}
 use Prim.Native.Nat.{ℕ, zero, suc, ◌≤◌, ◌<◌}
 use lib.ListN.{length, get_or, replicate}
@@ -51,11 +50,11 @@ plannable = record {
 
 -- `unfolding computed` opens every definition that these compute through.
 computed : ℕ
-unfolding or_else first met_at is_some product high_part hashed multiplier place_of occurs place_by beginning least_from
+unfolding first met_at is_some product high_part hashed multiplier place_of occurs place_by beginning least_from
     least feasible both_places candidates least_seed part_start part_of unseeded part_seed
 computed = 0
 
-no-group-without : first (unseeded tags ends 2) 1 ≡ none
+no-group-without : first (unseeded tags ends 2) 1 ≡ None
 unfolding computed
 no-group-without = refl
 
@@ -65,7 +64,7 @@ seed-is = refl
 
 -- What the promise says of the first cell, since no group is without a seed.
 first_cell : (before : List ℕ) {cells : List ℕ} {o : Option ℕ} → o ≡ first (unseeded tags ends 2) 1
-    → cells ≡ seeds_found tags ends 2 (Option.get_or o 1) before → get_or cells 0 0 ≡ 1
+    → cells ≡ seeds_found tags ends 2 (unwrap_or o 1) before → get_or cells 0 0 ≡ 1
 unfolding seeds_found up_to
 first_cell before told found = ap (λ (l : List ℕ). get_or l 0 0) found ∙ rw (told, no-group-without) seed-is
 

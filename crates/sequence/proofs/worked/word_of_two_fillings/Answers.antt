@@ -4,7 +4,7 @@ use Prim.Native.Nat.{ℕ, zero, suc, ◌*◌, ◌<◌}
 use mathlib.Core.Path.{◌≡◌, refl, ◌∙◌}
 use mathlib.Core.Bool.{Bool, true, false}
 use mathlib.Core.List.{List}
-use mathlib.Core.Option.{none, some, map}
+use Rattle.std.specs.Prelude.{None, Some, option_map}
 use native.Mathlib.Omega.{arith}
 use lib.ListN.{replicate, set}
 use Rattle.refusal.specs.Limits.{group_max}
@@ -33,25 +33,25 @@ candidates = record { size = refl; below = below }
     below (suc zero) lt true = omega arith
     below (suc (suc i)) lt choice = absurd (omega arith)
 
-computed : map word_of (sequence_taken (keys_of 2 places)) ≡ some 2
+computed : option_map word_of (sequence_taken (keys_of 2 places)) ≡ Some 2
 unfolding up_to entry_of keys_of sequence_taken taken_from beginning fewer_ones ones occurs place_by word_of choice_number
 computed = refl
 
-same : {x y : ℕ} → some x ≡ some y → x ≡ y
+same : {x y : ℕ} → Some x ≡ Some y → x ≡ y
 same e = cc
 
-never : {x : ℕ} → none ≡ some x → ⊥
+never : {x : ℕ} → None ≡ Some x → ⊥
 never e = let z : ◌≡◌ {A = ℕ} 0 1 = cc in omega arith
 
 pub choices_taken-requires : goal.choices_taken-requires
 choices_taken-requires c = (omega arith, candidates)
 
-pub returns-in-Word : goal.returns-in-Word
-returns-in-Word c =
-    let promised = rw c.in-Word.is at c.choices_taken.ensures.answer in
+pub returns-in-Some : goal.returns-in-Some
+returns-in-Some c =
+    let promised = rw c.in-Some.is at c.choices_taken.ensures.answer in
     record { answer = same (promised ∙ computed) }
 
-pub returns-in-Nothing : goal.returns-in-Nothing
-returns-in-Nothing c =
-    let promised = rw c.in-Nothing.is at c.choices_taken.ensures.answer in
+pub returns-in-None : goal.returns-in-None
+returns-in-None c =
+    let promised = rw c.in-None.is at c.choices_taken.ensures.answer in
     record { answer = absurd (never (promised ∙ computed)) }

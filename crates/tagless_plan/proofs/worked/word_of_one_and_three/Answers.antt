@@ -2,8 +2,7 @@
 -- definition gives. Assumes nothing.
 use mathlib.Core.Path.{◌≡◌, refl, ◌∙◌, ap}
 use mathlib.Core.List.{List, [], ◌∷◌}
-use mathlib.Core.Option
-use mathlib.Core.Option.{Option, none, or_else}
+use Rattle.std.specs.Prelude.{Option, None, unwrap_or}
 use native.Mathlib.Omega.{arith}
 use Prim.Native.Nat.{ℕ, zero, suc, ◌≤◌, ◌<◌}
 use lib.ListN.{length, get_or, replicate}
@@ -39,17 +38,17 @@ searchable = record {
   few = only (λ g. length (part_of tags ends g) ≤ group_max) (omega arith);
 }
 
-no-group-without : first (unworded tags ends 2) 1 ≡ none
-unfolding or_else first met_at is_some part_start part_of unworded
+no-group-without : first (unworded tags ends 2) 1 ≡ None
+unfolding first met_at is_some part_start part_of unworded
 no-group-without = rw seed-and-word
 
 word-is : part_word tags ends 2 0 ≡ 1
 unfolding part_start part_of part_word
-word-is = ap (λ (o : Option (ℕ × ℕ)). (Option.get_or o (0, 0)).1) seed-and-word
+word-is = ap (λ (o : Option (ℕ × ℕ)). (unwrap_or o (0, 0)).1) seed-and-word
 
 -- What the promise says of the first cell, since no group is without a word.
 first_cell : (before : List ℕ) {cells : List ℕ} {o : Option ℕ} → o ≡ first (unworded tags ends 2) 1
-    → cells ≡ stored_up_to (part_word tags ends 2) (Option.get_or o 1) before → get_or cells 0 0 ≡ 1
+    → cells ≡ stored_up_to (part_word tags ends 2) (unwrap_or o 1) before → get_or cells 0 0 ≡ 1
 unfolding stored_up_to up_to
 first_cell before told found = ap (λ (l : List ℕ). get_or l 0 0) found ∙ rw (told, no-group-without) word-is
 
