@@ -31,8 +31,8 @@ fn merge(labels: &mut [u8; MEMBER_CELLS], into: u8, from: u8)
     requires { length labels.old ≡ group_max }
     ensures cells { labels.new ≡ map (merged into from) labels.old }
 {
-    for label in labels.iter_mut() {
-        *label = merged(*label, into, from);
+    for cell in 0..MEMBER_CELLS {
+        labels[cell] = merged(labels[cell], into, from);
     }
 }
 

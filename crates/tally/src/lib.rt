@@ -17,8 +17,9 @@ pub fn count_points(labels: &[u8; MEMBER_CELLS], n: usize, counts: &mut [u8; MEM
     requires { (n ≤ group_max) × LabelsBelow labels.now group_max × (counts.old ≡ replicate group_max 0) }
     ensures cells { counts.new ≡ by_label (labelled labels.now) (points n) }
 {
-    for &label in &labels[..n] {
-        counts[label as usize] += 1;
+    for place in 0..n {
+        let label = labels[place] as usize;
+        counts[label] += 1;
     }
 }
 
@@ -47,7 +48,14 @@ pub fn part_count(counts: &[u8; MEMBER_CELLS], n: usize) -> u32
     requires { n ≤ group_max }
     ensures answer { result ≡ how_many (positive counts.now) (points n) }
 {
-    counts[..n].iter().filter(|&&count| 0 < count).count() as u32
+    let mut number = 0;
+    // A chain of `filter` and `count` has a branch a label here; of this loop the compiler takes eight labels at once.
+    for &count in &counts[..n] {
+        if 0 < count {
+            number += 1;
+        }
+    }
+    number
 }
 
 // Has any label more edges than points?

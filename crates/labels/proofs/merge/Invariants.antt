@@ -6,5 +6,5 @@ use Rattle.graph.specs.Label.{merged}
 use Rattle.labels.specs.LabelsLaws.{changed}
 use Rattle.labels.proofs.merge.Given as goal
 
-abbrev pub invariant-loop-label : goal.invariant-loop-label
-invariant-loop-label l = (l.label-index ≤ group_max) × (l.labels ≡ changed (merged l.into l.from) l.initial.labels l.label-index)
+abbrev pub invariant-loop-cell : goal.invariant-loop-cell
+invariant-loop-cell l = (l.cell ≤ group_max) × (l.labels ≡ changed (merged l.into l.from) l.initial.labels l.cell)

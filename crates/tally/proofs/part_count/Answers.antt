@@ -1,41 +1,43 @@
--- `tally::part_count` meets its contract: the counts that are not 0 are as many as the labels that a place has. Assumes nothing.
-use Prim.Native.Nat.{ℕ, zero, suc, ◌+◌, ◌≤◌, ◌<◌}
-use mathlib.Core.Path.{◌≡◌, refl, ◌∙◌}
-use mathlib.Core.Bool.{Bool, true, false}
-use mathlib.Core.List.{List}
-use native.Mathlib.Numerals.{add-one}
+-- `tally::part_count` meets its contract: a turn looks at one label more. Assumes nothing.
+use Prim.Native.Nat.{◌<◌}
+use mathlib.Core.Path.{◌≡◌}
 use native.Mathlib.Omega.{arith}
-use lib.ListN.{length, get_or, take}
-use Rattle.std.proofs.Common.{rules, nat_lt}
-use Rattle.std.specs.List.{count_by}
-use Rattle.std.proofs.lemmas.List.Sums.{count_by_more_yes, count_by_more_no}
-use Rattle.tally.specs.Tally.{positive}
-use Rattle.tally.specs.TallyLaws.{Tallied, tallied-start, tallied-passes, tallied-fails, tallied-done}
+use lib.ListN.{get_or, take}
+use lib.Seq.{length-take-le, get_or-take}
+use borrow.Author.Tests.{lt-ltb, le-ltb}
+use Rattle.tally.specs.TallyLaws.{tallied-start, tallied-most, tallied-passes, tallied-fails, tallied-done}
 use Rattle.tally.proofs.part_count.Goals as goal
+use Rattle.tally.proofs.part_count.Goals.{In-loop-count, then-count-gt0, else-count-gt0}
 
--- Is a count not 0?
-abbrev some : ℕ → Bool
-some count = nat_lt 0 count
+-- A turn is for a label,
+inside : (c : In-loop-count) → c.loop-count.count-index < c.args.n
+inside c =
+    let a = c.args in
+    omega (arith, length-take-le a.n a.counts.now (omega (arith, c.requires, c.told-counts)), c.loop-count-test.true)
 
--- Of the first i counts as many are not 0 as of the labels below i have a place.
-abbrev FirstCounted : List ℕ → ℕ → ℕ → Type 0
-FirstCounted counts n i = Tallied (positive counts) (λ u. u) n (count_by some (take i counts)) i
+-- and looks at its count.
+count-is : (c : In-loop-count)
+    → get_or (take c.args.n c.args.counts.now) c.loop-count.count-index 0 ≡ get_or c.args.counts.now c.loop-count.count-index 0
+count-is c = get_or-take c.args.n c.args.counts.now c.loop-count.count-index 0 (inside c)
 
-one-more : (counts : List ℕ) (n i : ℕ) → i < length counts → i < n → FirstCounted counts n i → FirstCounted counts n (i + 1)
-one-more counts n i lt inside before = go (some (get_or counts i 0)) refl
-  where
-    go : (b : Bool) → some (get_or counts i 0) ≡ b → FirstCounted counts n (i + 1)
-    go true e = rw (count_by_more_yes some counts i 0 lt e) (tallied-passes _ _ _ before inside e)
-    go false e = rw (count_by_more_no some counts i 0 lt e) (tallied-fails _ _ _ before inside e)
+pub loop-count-init : goal.loop-count-init
+loop-count-init c = tallied-start _ _ _
 
-first-counted : (counts : List ℕ) (n i : ℕ) → n ≤ length counts → i ≤ n → FirstCounted counts n i
-first-counted counts n zero room upto = tallied-start _ _ _
-first-counted counts n (suc i) room upto =
-    rw (← add-one i) (one-more counts n i (omega arith) (omega arith) (first-counted counts n i room (omega arith)))
+pub overflow_add-number : goal.overflow_add-number
+overflow_add-number c =
+    omega (arith, tallied-most _ _ _ c.loop-count.invariant, c.requires)
+
+pub loop-count-preserved : goal.loop-count-preserved
+loop-count-preserved c =
+    let at = (goal.at.loop-count-preserved c).In-loop-count in
+    let tallied = c.loop-count.invariant in
+    elim c.if-count-gt0.branch [
+      | then-count-gt0 w ↦ rw w.number-is (tallied-passes _ _ _ tallied (inside at) (rw (count-is at) at (lt-ltb _ _ w.if-count-gt0.true)))
+      | else-count-gt0 w ↦ rw w.number-is (tallied-fails _ _ _ tallied (inside at) (rw (count-is at) at (le-ltb _ _ w.if-count-gt0.false)))
+    ]
 
 pub returns : goal.returns
 returns c =
     let a = c.args in
-    let counted : c.count.result ≡ count_by some (take a.n a.counts.now) = search rules in
-    let all = first-counted a.counts.now a.n a.n (omega (arith, c.requires, c.told-counts)) (omega arith) in
-    record { answer = counted ∙ tallied-done _ _ _ all (omega arith) }
+    let whole = length-take-le a.n a.counts.now (omega (arith, c.requires, c.told-counts)) in
+    record { answer = tallied-done _ _ _ c.loop-count.invariant (omega (arith, whole, c.loop-count-test.false)) }
