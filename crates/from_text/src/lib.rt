@@ -32,14 +32,17 @@ pub fn plan_from_text(text: &[u8], plan: &mut [u32; refusal::PLAN_CELLS]) -> Res
     ensures plan { plan.new ≡ plan_from_text text.now }
     ensures condition3 { TextPlanningCondition3 text.now (outcome result) plan.new }
 {
-    *plan = [0; refusal::PLAN_CELLS];
     let mut cells = [0u32; refusal::TAG_CELLS];
-    let ListHead {
-        groups,
-        limit,
-        count,
-    } = read_text(text, &mut cells)?;
-    planning::plan_list(&cells[..count], groups, limit, plan)
+    match read_text(text, &mut cells) {
+        Ok(listed) => {
+            planning::plan_list(&cells[..listed.count], listed.groups, listed.limit, plan)
+        }
+        // The plan is written once the text is read, not before.
+        Err(refusal) => {
+            *plan = [0; refusal::PLAN_CELLS];
+            Err(refusal)
+        }
+    }
 }
 
 // Writing from a list text, for any text, any plan and any buffer. The text's B and L are read, and mean nothing.
