@@ -71,7 +71,9 @@ fn group_end(image: &[u8], count: u32, groups: u32, g: u32) -> Option<u32>
     if next == groups {
         return Some(count);
     }
-    let (start, _) = lines::read_group_line(image, LINE_LENGTH * (1 + next as usize))?;
+    let Some((start, _)) = lines::read_group_line(image, LINE_LENGTH * (1 + next as usize)) else {
+        return None;
+    };
     Some(start)
 }
 

@@ -19,10 +19,14 @@ pub fn build_from_text(text: &[u8], buffer: &mut [u8]) -> Result<usize, Refusal>
         buffer.new }
 {
     let mut cells = [0u32; refusal::TAG_CELLS];
-    let ListHead {
-        groups,
-        limit,
-        count,
-    } = from_text::read_text(text, &mut cells)?;
-    tagless_building::tagless_build(&cells[..count], groups, limit, buffer)
+    match from_text::read_text(text, &mut cells) {
+        Ok(
+            ListHead {
+                groups,
+                limit,
+                count,
+            },
+        ) => { tagless_building::tagless_build(&cells[..count], groups, limit, buffer) }
+        Err(refusal) => Err(refusal),
+    }
 }

@@ -69,7 +69,9 @@ fn group_end(image: &[u8], count: u32, groups: u32, g: u32) -> Option<u32>
     if next == groups {
         return Some(count);
     }
-    let (start, _) = tagless_opening::read_start_and_seed(image, groups, next)?;
+    let Some((start, _)) = tagless_opening::read_start_and_seed(image, groups, next) else {
+        return None;
+    };
     Some(start)
 }
 

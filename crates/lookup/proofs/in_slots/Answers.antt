@@ -35,8 +35,9 @@ loop-choice-init c =
 pub overflow_add-slot : goal.overflow_add-slot
 overflow_add-slot c =
     let a = c.args in
-    let inside = place-below (a.end - a.start) a.seed c.loop-choice.choice a.tag (omega (arith, c.if-start-end.false)) in
-    record { fits = omega (arith, c.place_of.ensures.answer) }
+    let inside : c.place_of.result < a.end - a.start =
+    rw c.place_of.ensures.answer (place-below (a.end - a.start) a.seed _ a.tag (omega (arith, c.if-start-end.false))) in
+    record { fits = omega arith }
 
 pub returns-in_default : goal.returns-in_default
 returns-in_default c =

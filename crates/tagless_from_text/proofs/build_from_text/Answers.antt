@@ -3,26 +3,25 @@
 use Rattle.std.specs.Prelude.{refl}
 use Rattle.std.proofs.Common.{sym, arith}
 use Rattle.refusal.proofs.OutcomeLaws.{refused-of-by}
-use Rattle.refusal.proofs.AnswerLaws.{passed_up}
 use Rattle.list.specs.Answer.{head_of}
 use Rattle.from_text.specs.PromiseLaws.{read-into}
 use Rattle.tagless_from_text.specs.PromiseLaws.{promised-unread, promised-read}
 use Rattle.tagless_from_text.proofs.build_from_text.Goals as goal
 
-pub returns-in_err-groups : goal.returns-in_err-groups
-returns-in_err-groups c =
-    let p = promised-unread _ _ (refused-of-by head_of _ (sym c.in_err-groups.ensures.answer)) refl in
-    rw (passed_up _ _ c.from_residual.ensures) record { answer = p.0; bytes = p.1.0; condition = p.1.1 }
-
 pub slice_bounds-cells-end : goal.slice_bounds-cells-end
-slice_bounds-cells-end c = omega (arith, (read-into _ _ c.in_ok-groups.ensures.answer c.in_ok-groups.ensures.cells).fits)
+slice_bounds-cells-end c = omega (arith, (read-into _ _ c.in-Ok.ensures.answer c.in-Ok.ensures.cells).fits)
 
 pub slice_bounds-tagless_build-end : goal.slice_bounds-tagless_build-end
-slice_bounds-tagless_build-end c = (read-into _ _ c.in_ok-groups.ensures.answer c.in_ok-groups.ensures.cells).counted
+slice_bounds-tagless_build-end c = (read-into _ _ c.in-Ok.ensures.answer c.in-Ok.ensures.cells).counted
 
-pub returns : goal.returns
-returns c =
+pub returns-in-Ok : goal.returns-in-Ok
+returns-in-Ok c =
     let built = c.tagless_build.ensures in
-    let read = (read-into _ _ c.in_ok-groups.ensures.answer c.in_ok-groups.ensures.cells).outcome in
+    let read = (read-into _ _ c.in-Ok.ensures.answer c.in-Ok.ensures.cells).outcome in
     let p = promised-read _ _ read (built.answer, (built.bytes, built.condition)) in
+    record { answer = p.0; bytes = p.1.0; condition = p.1.1 }
+
+pub returns-in-Err : goal.returns-in-Err
+returns-in-Err c =
+    let p = promised-unread _ _ (refused-of-by head_of _ (sym c.in-Err.ensures.answer)) refl in
     record { answer = p.0; bytes = p.1.0; condition = p.1.1 }

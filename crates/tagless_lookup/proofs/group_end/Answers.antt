@@ -9,13 +9,13 @@ use Rattle.tagless_lookup.proofs.group_end.Goals as goal
 pub returns-then-next-groups : goal.returns-then-next-groups
 returns-then-next-groups c = record { answer = sym (end-of-last c.args.image.now c.requires.tagless_opens c.args.g (omega arith)) }
 
-pub returns-in_err-start : goal.returns-in_err-start
-returns-in_err-start c =
+pub returns-in_default : goal.returns-in_default
+returns-in_default c =
     let image = c.args.image.now in
     record {
-      answer = c.from_residual.ensures
-          ∙ sym (end-of-malformed image c.requires.tagless_opens c.args.g (omega (arith, c.if-next-groups.false, c.requires.g_lt_groups))
-          (rw add-one at (sym c.read_start_and_seed.ensures.answer ∙ c.in_err-start.was)));
+      answer = sym
+          (end-of-malformed image c.requires.tagless_opens c.args.g (omega (arith, c.if-next-groups.false, c.requires.g_lt_groups))
+          (rw add-one at (sym c.read_start_and_seed.ensures.answer ∙ c.in_default.is)));
     }
 
 pub returns : goal.returns
@@ -23,5 +23,5 @@ returns c =
     let image = c.args.image.now in
     record {
       answer = sym (end-of-next image c.requires.tagless_opens c.args.g (omega (arith, c.if-next-groups.false, c.requires.g_lt_groups))
-          (rw add-one at (sym c.read_start_and_seed.ensures.answer ∙ c.in_ok-start.was)));
+          (rw add-one at (sym c.read_start_and_seed.ensures.answer ∙ c.in-Some.is)));
     }
