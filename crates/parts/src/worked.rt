@@ -12,6 +12,7 @@ pub fn parts_of_one_and_three() -> u32
 {
     let tags = [1u32, 3];
     match count_parts(&tags, 0) {
+        Ok(parts) if parts.serves => 0,
         Ok(parts) => parts.number,
         Err(_) => 0,
     }

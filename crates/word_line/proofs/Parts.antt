@@ -42,7 +42,7 @@ module _ (bytes : List ℕ) (at : ℕ) where
       word-other-length (take word_line_length (drop at bytes)) (λ e. omega (arith, simp (length-take, length-drop) at e))
 
   -- One that is there is its two fields and, from its eleventh byte on, what a slot's line is.
-  line-parts : at + word_line_length ≤ length bytes
+  pub line-parts : at + word_line_length ≤ length bytes
       → group_word_line (take word_line_length (drop at bytes))
       ≡ and_third
       (within (λ h. leb h.1 seed_max)
